@@ -1,0 +1,9 @@
+pub mod Tests
+pub mod CutLaws
+pub mod DigitLaws
+pub mod NameLaws
+pub mod TableLaws
+pub mod RunLaws
+pub mod Stops
+pub mod ReadLaws
+pub mod ModelLaws

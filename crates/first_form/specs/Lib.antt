@@ -1,0 +1,9 @@
+pub mod Option
+pub mod Stop
+pub mod Lines
+pub mod Fields
+pub mod Numbers
+pub mod Names
+pub mod Tables
+pub mod Stated
+pub mod Views
