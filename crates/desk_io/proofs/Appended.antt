@@ -1,7 +1,7 @@
 -- Bytes that are appended piece by piece, for a run of puts or says.
 use Rattle.std.proofs.Common.{◌≡◌, ◌≤◌, ◌+◌, ℕ, List, ◌++◌, length, take, Option, Some, None, append_assoc, min, arith, sym, ◌∙◌, ap}
 use Rattle.std.proofs.Math.Seq.{take-append-add, take-length}
-use Rattle.std.proofs.lemmas.List.{take-append-le, take_min}
+use Rattle.std.proofs.lemmas.List.{take-append-le, take_min, append-nil}
 use Rattle.std.specs.Option.{option_map}
 use Rattle.desk_io.specs.Desk.{appended, AppendsSome}
 
@@ -33,3 +33,8 @@ appends_front first second before after some =
       n,
       some.1 ∙ ap (λ (l : List ℕ). option_map (appended l) before) (sym (take-append-le n first second short ∙ take_min some.0 first)),
     )
+
+-- nothing is some of it too
+pub appends_none : (bytes : List ℕ) (before after : Option (List ℕ)) → after ≡ before → AppendsSome bytes before after
+appends_none bytes (Some b) after same = (0, same ∙ ap (λ (l : List ℕ). Some l) (sym (append-nil b)))
+appends_none bytes None after same = (0, same)

@@ -1,2 +1,4 @@
-pub mod Taken
 pub mod Appended
+pub mod Causes
+pub mod Outcomes
+pub mod Taken

@@ -1,5 +1,5 @@
 -- An input that is taken piece by piece, for a loop over takes.
-use Rattle.std.proofs.Common.{◌≡◌, ◌<◌, ◌≤◌, ℕ, List, [], ◌++◌, length, take, drop, Option, Some, arith, length-append, append_assoc, sym, ◌∙◌, ap, refl, take-append-drop}
+use Rattle.std.proofs.Common.{◌≡◌, ◌<◌, ◌≤◌, ℕ, List, [], ◌++◌, ◌∷◌, min, length, take, drop, Option, Some, arith, length-append, append_assoc, sym, ◌∙◌, ap, refl, take-append-drop}
 use Rattle.std.proofs.lemmas.List.{append-nil}
 use Rattle.std.specs.Option.{option_map, ForSome}
 use Rattle.desk_io.specs.Desk.{TakesFrom}
@@ -38,3 +38,8 @@ taken_all input taken buffer left so_far room takes =
 -- no more was taken than there was
 pub taken_within : (input taken : List ℕ) (left : Option (List ℕ)) → IsTaken input taken left → length taken ≤ length input
 taken_within input taken left so_far = omega (arith, ap length so_far.split, length-append taken so_far.rest)
+
+-- a take of as many bytes as there are and as there is room for
+pub takes_least : (buffer left : List ℕ) (n : ℕ) → n ≡ min (length buffer) (length left) → take n buffer ≡ take n left → TakesFrom buffer n left
+takes_least buffer [] n least front = record { front = front; within = omega (arith, least); ends = λ _ _. refl }
+takes_least buffer (byte ∷ left) n least front = record { front = front; within = omega (arith, least); ends = λ none room. absurd (omega (arith, least, none, room)) }

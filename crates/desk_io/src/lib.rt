@@ -2,5 +2,10 @@
 #![tactic(auto)]
 
 mod desk;
+mod fault;
+mod memory;
+mod short_name;
+mod unread;
 
 pub use desk::{Call, Desk, DeskStop, Failed};
+pub use memory::{MemDesk, NoMemory};
