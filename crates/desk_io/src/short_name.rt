@@ -31,7 +31,6 @@ pub(crate) fn short_name(name: &str) -> ShortName
 
 /// Whether it spells this name.
 pub(crate) fn spells(short: &ShortName, name: &str) -> bool
-    requires { short.now.len ≤ 255 }
     ensures { IsTrue result ↔ (text_of short.now ≡ name.now) }
 {
     let len = short.len as usize;
