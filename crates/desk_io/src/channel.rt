@@ -10,12 +10,11 @@ use std::rt::Files;
 /// How many names a channel remembers.
 pub(crate) const PLACES: usize = 8;
 
-/// How far a file was read or written, and whether it was opened before.
+/// How far a file was read or written.
 #[derive(Clone, Copy, Drop)]
 struct Place {
     name: ShortName,
     at: u64,
-    opened: bool,
 }
 
 /// The files of one direction.
@@ -33,7 +32,6 @@ impl<F: Read + Write + Seek + Drop> Channel<F> {
         let unused = Place {
             name: ShortName::EMPTY,
             at: 0,
-            opened: false,
         };
         Channel {
             open: None,
@@ -75,9 +73,10 @@ impl<F: Read + Write + Seek + Drop> Channel<F> {
         requires { length name.now ≤ 255 }
     {
         let place = self.place_of(name)?;
+        let started = place < self.used;
         let mut file = match self.lift(place) {
             Some(file) => file,
-            None => open_to_write(rt, name, self.places[place])?,
+            None => open_to_write(rt, name, started, self.places[place].at)?,
         };
         let written = write_front(&mut file, bytes);
         self.lay_down(place, file, written);
@@ -87,7 +86,7 @@ impl<F: Read + Write + Seek + Drop> Channel<F> {
         Ok(())
     }
 
-    // Where the name stands, or goes if there is room for one more.
+    // Where the name stands, or goes once its file is open, if there is room for one more.
     fn place_of(&mut self, name: &str) -> Result<usize, Failed>
         requires { length name.now ≤ 255 }
         ensures { IfOk result (λ place. place < 8) }
@@ -101,8 +100,10 @@ impl<F: Read + Write + Seek + Drop> Channel<F> {
             return Err(Failed);
         }
         let place = self.used;
-        self.places[place].name = short_name(name);
-        self.used += 1;
+        self.places[place] = Place {
+            name: short_name(name),
+            at: 0,
+        };
         Ok(place)
     }
 
@@ -117,7 +118,7 @@ impl<F: Read + Write + Seek + Drop> Channel<F> {
         requires { place < 8 }
     {
         self.places[place].at = self.places[place].at.saturating_add(moved as u64);
-        self.places[place].opened = true;
+        self.used = self.used.max(place + 1);
         self.current = place;
         self.open = Some(file);
     }
@@ -130,16 +131,16 @@ fn open_to_read<R: Files>(rt: &R, name: &str, at: u64) -> Result<R::File, Failed
     move_to(file, at)
 }
 
-fn open_to_write<R: Files>(rt: &R, name: &str, place: Place) -> Result<R::File, Failed> {
+fn open_to_write<R: Files>(rt: &R, name: &str, started: bool, at: u64) -> Result<R::File, Failed> {
     let mut how = OpenOptions::new();
     how.write(true);
-    if !place.opened {
+    if !started {
         how.create(true).truncate(true);
     }
     let Ok(file) = how.open(rt, name) else {
         return Err(Failed);
     };
-    move_to(file, place.at)
+    move_to(file, at)
 }
 
 // A file that is at its start already is not moved, so that a pipe can be read.

@@ -9,6 +9,9 @@ mod real;
 mod short_name;
 mod unread;
 
-pub use desk::{Call, Desk, DeskStop, Failed};
-pub use memory::{MemDesk, NoMemory};
+pub use desk::{Call, Desk, DeskStop, Failed, NoMemory};
+pub use memory::MemDesk;
 pub use real::RealDesk;
+
+#[cfg(test)]
+mod tests;

@@ -7,25 +7,9 @@ ghost use Rattle.desk_io.specs.Desk.{Fault, fault, TakesFrom, appended, AppendsS
 
 use crate::fault::Faults;
 use crate::unread::Unread;
-use crate::{Call, Desk, DeskStop, Failed};
-use std::alloc::{AllocError, AllocFailed, Global};
+use crate::{Call, Desk, DeskStop, Failed, NoMemory};
+use std::alloc::{AllocError, Global};
 use std::collections::BTreeMap;
-
-/// No memory was left.
-#[derive(Clone, Copy, Debug, Drop, PartialEq, Eq)]
-pub struct NoMemory;
-
-impl From<AllocError> for NoMemory {
-    fn from(_: AllocError) -> Self {
-        NoMemory
-    }
-}
-
-impl<T: Drop> From<AllocFailed<T>> for NoMemory {
-    fn from(_: AllocFailed<T>) -> Self {
-        NoMemory
-    }
-}
 
 /// A desk whose inputs and outputs are in memory.
 ///
@@ -172,7 +156,8 @@ impl MemDesk {
             Some(before) => before.extend_from_slice(bytes)?,
             None => {
                 let key = String::from_str(self.alloc, name)?;
-                self.outputs.insert(key, Vec::from_slice(self.alloc, bytes)?)?;
+                self.outputs
+                    .insert(key, Vec::from_slice(self.alloc, bytes)?)?;
             }
         }
         Ok(())

@@ -14,8 +14,8 @@ use std::rt::Files;
 /// reason, a read, a write, and a write that takes nothing of a piece.
 ///
 /// One input and one output are open at a time. An output is created, or emptied, at its first put. An input or output
-/// that comes again after another one goes on where it stopped. Eight names of inputs and eight of outputs are
-/// remembered for that, and a call with a ninth name is a fault.
+/// that comes again after another one goes on where it stopped. The desk remembers the names of eight inputs and of
+/// eight outputs for that, in fields of fixed size; a call that would need to remember a ninth is a fault.
 #[derive(Drop)]
 pub struct RealDesk<R: Files + Print + Drop> {
     rt: R,
