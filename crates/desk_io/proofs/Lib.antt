@@ -1,4 +1,4 @@
 pub mod Appended
-pub mod Causes
+pub mod Faults
 pub mod Outcomes
 pub mod Taken
