@@ -1,1 +1,4 @@
+pub mod Counts
 pub mod Desk
+pub mod Memory
+pub mod Names

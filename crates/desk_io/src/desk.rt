@@ -44,6 +44,32 @@ impl<T: Drop> From<AllocFailed<T>> for DeskStop {
     }
 }
 
+/// No memory was left.
+#[derive(Clone, Copy, Debug, Drop, PartialEq, Eq)]
+pub struct NoMemory;
+
+impl From<AllocError> for NoMemory {
+    fn from(_: AllocError) -> Self {
+        NoMemory
+    }
+}
+
+impl<T: Drop> From<AllocFailed<T>> for NoMemory {
+    fn from(_: AllocFailed<T>) -> Self {
+        NoMemory
+    }
+}
+
+impl From<NoMemory> for DeskStop {
+    ghost use Rattle.desk_io.specs.declared.desk.DeskStop.TheVariants.{NoMemory};
+
+    ghost from_gives = { λ _ e. e ≡ NoMemory };
+
+    fn from(_: NoMemory) -> Self {
+        DeskStop::NoMemory
+    }
+}
+
 /// Which call of a desk.
 #[derive(Clone, Copy, Debug, Drop, PartialEq, Eq)]
 pub enum Call {

@@ -1,6 +1,17 @@
 //! The desk of a run: where it takes its inputs, puts its outputs and says its report.
 #![tactic(auto)]
 
+mod channel;
 mod desk;
+mod fault;
+mod memory;
+mod real;
+mod short_name;
+mod unread;
 
-pub use desk::{Call, Desk, DeskStop, Failed};
+pub use desk::{Call, Desk, DeskStop, Failed, NoMemory};
+pub use memory::MemDesk;
+pub use real::RealDesk;
+
+#[cfg(test)]
+mod tests;

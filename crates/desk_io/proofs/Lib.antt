@@ -1,0 +1,4 @@
+pub mod Appended
+pub mod Faults
+pub mod Outcomes
+pub mod Taken
