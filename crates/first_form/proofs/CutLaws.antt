@@ -1,14 +1,13 @@
 -- The first line of a text and the first field of a line stand at its front.
-use Rattle.std.proofs.Common.{◌≡◌, ℕ, zero, suc, true≢false, ◌+◌, ◌<◌, ◌≤◌, Bool, true, false, cond, not, ◌||◌, eqb, ltb, List, [], ◌∷◌, length, take, drop, Option, Some, None, refl, sym, ap, subst, ◌∙◌, arith}
+use Rattle.std.proofs.Common.{◌≡◌, ℕ, suc, ◌+◌, ◌<◌, Bool, true, false, cond, not, eqb, ltb, List, [], ◌∷◌, length, take, drop, Some, None, refl, sym, ap, subst, ◌∙◌, arith}
 use Rattle.std.specs.Prelude.{position}
-use Rattle.std.specs.List.{position_or_len, prefix_len}
-use Rattle.std.proofs.lemmas.Bool.{cases_lt, le-ltb}
+use Rattle.std.specs.List.{position_or_len}
 use Rattle.std.proofs.lemmas.List.Sums.{prefix_len-le-length}
 use Rattle.std.proofs.lemmas.List.{nil_from_length}
 use Rattle.std.proofs.lemmas.Option.{cond_some, none-some}
-use Rattle.first_form.proofs.Tests.{either, suc≢zero}
+use Rattle.first_form.proofs.Booleans.{either, suc≢zero}
 use Rattle.first_form.specs.Lines.{lines_of, onto_first, is_blank}
-use Rattle.first_form.specs.Fields.{fields_of, ends_run}
+use Rattle.first_form.specs.Fields.{fields_of}
 
 one_more : (n : ℕ) → 1 + n ≡ suc n
 one_more n = omega arith

@@ -1,10 +1,10 @@
 -- The value of digits that are read from the left.
-use Rattle.std.proofs.Common.{◌≡◌, ℕ, zero, suc, ◌+◌, ◌-◌, ◌*◌, ◌^◌, ◌<◌, ◌≤◌, Bool, true, ◌&&◌, List, [], ◌∷◌, length, drop, get_or, leb, refl, sym, ap, subst, ◌∙◌, arith, add-one, lit<}
+use Rattle.std.proofs.Common.{◌≡◌, ℕ, zero, suc, ◌+◌, ◌-◌, ◌*◌, ◌^◌, ◌<◌, ◌≤◌, true, List, [], ◌∷◌, length, drop, get_or, leb, sym, ap, subst, ◌∙◌, arith, add-one, lit<}
 use Rattle.std.specs.List.{list_all}
 use Rattle.std.proofs.Math.Nat.{pow-le-pow_right, pow-succ'}
 use Rattle.std.proofs.lemmas.List.{drop_all, drop_more, length-drop}
 use Rattle.std.proofs.lemmas.Bool.{leb-true}
-use Rattle.first_form.proofs.Tests.{both_true}
+use Rattle.first_form.proofs.Booleans.{both_true}
 use Rattle.first_form.specs.Numbers.{is_digit, digits_value}
 
 -- digits of which the front is read: its value, moved to its place, and the value of the rest

@@ -1,4 +1,4 @@
-pub mod Tests
+pub mod Booleans
 pub mod CutLaws
 pub mod DigitLaws
 pub mod NameLaws

@@ -1,10 +1,10 @@
 -- The model of tables, step by step.
-use Rattle.std.proofs.Common.{◌≡◌, ℕ, Bool, true, false, cond, ◌&&◌, List, map, Option, Some, None, refl, ap, ◌∙◌}
+use Rattle.std.proofs.Common.{◌≡◌, ℕ, Bool, true, false, cond, List, map, Option, Some, None, refl, ap, ◌∙◌}
 use Rattle.first_form.specs.Option.{◌>>=◌, each}
 use Rattle.first_form.specs.Names.{are_distinct}
 use Rattle.first_form.specs.Tables.{Tables}
-use Rattle.first_form.specs.Stated.{column_names, distinct_columns, rows_fit, others_fit, fit, equality_names, column_at, modelled, stated_by}
-use Rattle.first_form.proofs.Tests.{both_true, true_both, first_false, second_false}
+use Rattle.first_form.specs.Stated.{distinct_columns, rows_fit, others_fit, fit, equality_names, column_at, modelled, stated_by}
+use Rattle.first_form.proofs.Booleans.{both_true, true_both, first_false, second_false}
 use Rattle.int_model.specs.declared.model.Column.{Column}
 use Rattle.int_model.specs.declared.model.Model.{Model}
 

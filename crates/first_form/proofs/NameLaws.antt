@@ -4,7 +4,7 @@ use Rattle.std.specs.Prelude.{bytes_eq}
 use Rattle.std.specs.List.{list_any, list_all, prefix_len}
 use Rattle.std.proofs.lemmas.List.{append-nil, drop_more}
 use Rattle.std.proofs.lemmas.Slice.Eq.{bytes_eq-Decides}
-use Rattle.first_form.proofs.Tests.{either, both_true, true_both, first_false, second_false}
+use Rattle.first_form.proofs.Booleans.{either, both_true, true_both, first_false, second_false}
 use Rattle.first_form.specs.declared.tables.NumberLine.{NumberLine as NumberSlices}
 use Rattle.first_form.specs.Names.{is_among, are_distinct}
 use Rattle.first_form.specs.Tables.{NumberLine}

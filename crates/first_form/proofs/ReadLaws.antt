@@ -1,5 +1,5 @@
 -- A model's columns, rows and items, one after another.
-use Rattle.std.proofs.Common.{◌≡◌, ℕ, ◌+◌, ◌<◌, ◌≤◌, length, drop, get_or, Bool, true, false, cond, ◌&&◌, not, List, [], ◌∷◌, ◌++◌, map, filter, Option, Some, None, ℤ, pos, refl, sym, ap, subst, ◌∙◌, append_assoc}
+use Rattle.std.proofs.Common.{◌≡◌, ℕ, ◌+◌, ◌<◌, ◌≤◌, length, drop, get_or, true, false, cond, ◌&&◌, not, List, [], ◌∷◌, ◌++◌, map, filter, Option, Some, None, ℤ, pos, refl, sym, ap, subst, ◌∙◌, append_assoc}
 use Rattle.std.specs.Prelude.{bytes_eq, find, option_map}
 use Rattle.std.specs.Ordering.{int_eq}
 use Rattle.std.proofs.lemmas.List.{append-nil, drop_all, drop_more}
@@ -8,8 +8,6 @@ use Rattle.first_form.specs.Option.{◌>>=◌, each}
 use Rattle.first_form.specs.Tables.{NumberLine}
 use Rattle.first_form.specs.Stated.{number_of, column_at, item_of, items_at}
 use Rattle.first_form.specs.Views.{number_view}
-use Rattle.int_model.specs.declared.model.Column.{Column}
-use Rattle.int_model.specs.declared.model.Item.{Item}
 
 -- ---- what each element gives
 

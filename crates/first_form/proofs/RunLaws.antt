@@ -1,15 +1,15 @@
 -- The names of the columns and of the E rows, line by line.
-use Rattle.std.proofs.Common.{◌≡◌, ℕ, ◌+◌, ◌<◌, ◌≤◌, length, drop, get_or, Bool, true, false, true≢false, cond, ◌&&◌, not, leb, List, [], ◌∷◌, ◌++◌, map, filter, Option, Some, None, refl, sym, ap, subst, ◌∙◌, append_assoc}
+use Rattle.std.proofs.Common.{◌≡◌, ℕ, ◌+◌, ◌<◌, ◌≤◌, length, drop, get_or, true, false, true≢false, cond, ◌&&◌, not, leb, List, [], ◌∷◌, ◌++◌, map, filter, Some, None, refl, sym, ap, subst, ◌∙◌, append_assoc}
 use Rattle.std.specs.Prelude.{bytes_eq}
 use Rattle.std.proofs.lemmas.Bool.{le-leb}
 use Rattle.std.proofs.lemmas.List.{append-nil, drop_all, drop_more}
 use Rattle.std.proofs.lemmas.Option.{same_Some, none-some}
-use Rattle.first_form.proofs.Tests.{either, true_both, first_false, second_false}
-use Rattle.first_form.proofs.NameLaws.{IsSeen, seen_none, seen_more, seen_twice, seen_all, distinct_twice, distinct_filtered}
+use Rattle.first_form.proofs.Booleans.{either, true_both, first_false, second_false}
+use Rattle.first_form.proofs.NameLaws.{IsSeen, seen_more, seen_twice, seen_all, distinct_twice, distinct_filtered}
 use Rattle.first_form.specs.declared.tables.NumberLine.{NumberLine as NumberSlices}
 use Rattle.first_form.specs.declared.tables.RowLine.{RowLine as RowSlices}
 use Rattle.first_form.specs.Names.{is_among, are_distinct, runs_after, with_run}
-use Rattle.first_form.specs.Tables.{RowLine, NumberLine}
+use Rattle.first_form.specs.Tables.{RowLine}
 use Rattle.first_form.specs.Stated.{equality_names, column_names, distinct_columns}
 use Rattle.first_form.specs.Views.{row_view, number_view}
 

@@ -1,8 +1,8 @@
 -- Reading a table line by line, and a section's line.
-use Rattle.std.proofs.Common.{◌≡◌, ℕ, suc, ne_eqb, Bool, true, false, cond, eqb, List, [], ◌∷◌, ◌++◌, length, slice_get, Option, Some, None, refl, sym, ap, subst, ◌∙◌, append_assoc}
+use Rattle.std.proofs.Common.{◌≡◌, ℕ, suc, ne_eqb, Bool, true, false, cond, eqb, List, [], ◌∷◌, ◌++◌, length, Option, Some, None, refl, sym, ap, ◌∙◌, append_assoc}
 use Rattle.std.proofs.lemmas.Bool.{eqb-true}
 use Rattle.std.proofs.lemmas.List.{append-nil, nil_from_length}
-use Rattle.first_form.proofs.Tests.{either, suc≢zero}
+use Rattle.first_form.proofs.Booleans.{either, suc≢zero}
 use Rattle.first_form.specs.Option.{◌>>=◌}
 use Rattle.first_form.specs.Lines.{lines_of, onto_first, is_blank, is_data}
 use Rattle.first_form.specs.Fields.{fields_of}

@@ -1,5 +1,5 @@
 -- The fields of a line: the longest runs of bytes other than blank and tab.
-use Rattle.std.specs.Prelude.{ℕ, Bool, true, false, if◌then◌else◌, List, [], ◌∷◌}
+use Rattle.std.specs.Prelude.{ℕ, Bool, true, if◌then◌else◌, List, [], ◌∷◌}
 use Rattle.first_form.specs.Lines.{onto_first, is_blank}
 
 -- no run goes on into these bytes

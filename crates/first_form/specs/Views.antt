@@ -1,5 +1,5 @@
 -- The lines and tables of the code, without where they lie in memory.
-use Rattle.std.specs.Prelude.{List, map, ◌∷◌, []}
+use Rattle.std.specs.Prelude.{List, map}
 use Rattle.first_form.specs.declared.tables.RowLine.{RowLine as RowSlices}
 use Rattle.first_form.specs.declared.tables.NumberLine.{NumberLine as NumberSlices}
 use Rattle.first_form.specs.declared.tables.Tables.{Tables as TableSlices}

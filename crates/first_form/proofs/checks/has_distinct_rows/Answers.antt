@@ -1,5 +1,4 @@
 use Rattle.std.proofs.Common.{map}
-use Rattle.first_form.specs.Stated.{place_of}
 use Rattle.first_form.specs.Views.{row_view}
 use Rattle.first_form.proofs.NameLaws.{seen_none, seen_again, seen_next}
 use Rattle.first_form.proofs.checks.has_distinct_rows.Goals as goal

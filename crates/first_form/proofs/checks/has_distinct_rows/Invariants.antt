@@ -1,5 +1,4 @@
 use Rattle.std.proofs.Common.{drop, map}
-use Rattle.first_form.specs.Stated.{place_of}
 use Rattle.first_form.specs.Views.{row_views}
 use Rattle.first_form.proofs.NameLaws.{IsSeen}
 use Rattle.first_form.proofs.checks.has_distinct_rows.Given as goal

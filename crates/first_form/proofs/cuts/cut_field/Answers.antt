@@ -1,7 +1,7 @@
 use Rattle.std.proofs.Common.{◌≡◌, ◌<◌, length, sym, ◌∙◌}
 use Rattle.std.proofs.lemmas.Bool.{eqb-true}
 use Rattle.first_form.proofs.CutLaws.{first_field, no_field}
-use Rattle.first_form.proofs.Tests.{above_zero}
+use Rattle.first_form.proofs.Booleans.{above_zero}
 use Rattle.first_form.proofs.cuts.cut_field.Goals as goal
 
 pub returns-then-is_empty : goal.returns-then-is_empty

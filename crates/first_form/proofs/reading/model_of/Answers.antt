@@ -45,8 +45,8 @@ returns c =
     (ap (λ rows. others_fit rows c.in_ok-names.names tables) (sym rows) ∙ sym c.in_ok-others_fit.ensures ∙ c.if-not-branch-2.false)
     (ap (λ bounds. each (column_at (number_views bounds)) c.in_ok-names.names) (sym c.deref-4.ensures.value) ∙ c.in_ok-columns.ensures)
     ∙ (let made : c.in_ok-rows-2.rows ≡ map (row_at c.in_ok-names.names tables.entries tables.sides) (equality_names tables.rows) =
-            c.in_ok-rows-2.ensures
-            ∙ ap (λ entries. map (row_at c.in_ok-names.names (number_views entries) (number_views c.deref-6.result.now)) c.in_ok-rows.rows) c.deref-5.ensures.value
-            ∙ ap (λ sides. map (row_at c.in_ok-names.names tables.entries (number_views sides)) c.in_ok-rows.rows) c.deref-6.ensures.value
-            ∙ ap (map (row_at c.in_ok-names.names tables.entries tables.sides)) rows in
-        rw (made, c.new.ensures) refl)
+    c.in_ok-rows-2.ensures
+    ∙ ap (λ entries. map (row_at c.in_ok-names.names (number_views entries) (number_views c.deref-6.result.now)) c.in_ok-rows.rows) c.deref-5.ensures.value
+    ∙ ap (λ sides. map (row_at c.in_ok-names.names tables.entries (number_views sides)) c.in_ok-rows.rows) c.deref-6.ensures.value
+    ∙ ap (map (row_at c.in_ok-names.names tables.entries tables.sides)) rows in
+    rw (made, c.new.ensures) refl)

@@ -1,5 +1,5 @@
 -- Tests, and what they say.
-use Rattle.std.proofs.Common.{◌≡◌, ℕ, zero, suc, true≢false, ◌<◌, Bool, true, false, cond, ◌&&◌, eqb, refl, sym, ap, ◌∙◌, arith}
+use Rattle.std.proofs.Common.{◌≡◌, ℕ, zero, suc, true≢false, ◌<◌, Bool, true, false, ◌&&◌, eqb, refl, sym, ap, ◌∙◌, arith}
 
 -- a test is passed or not
 pub either : {P : Type 0} (b : Bool) → (b ≡ true → P) → (b ≡ false → P) → P
