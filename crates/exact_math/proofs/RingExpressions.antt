@@ -1,5 +1,5 @@
 -- Polynomials over a commutative ring: expressions over a list of atoms, and their normal form, a sorted list of terms with whole coefficients.
-use Rattle.std.proofs.Common.{◌≡◌, ℕ, zero, suc, ℤ, pos, negsuc, ◌+ℤ◌, ◌*ℤ◌, neg_ℤ, Bool, true, false, eqb, ltb, List, [], ◌∷◌, map, get_or}
+use Rattle.std.proofs.Common.{ℕ, zero, suc, ℤ, pos, negsuc, ◌+ℤ◌, ◌*ℤ◌, Bool, true, false, eqb, ltb, List, [], ◌∷◌, get_or}
 use Rattle.exact_math.specs.Ring.{Ring}
 
 -- an expression; `atom i` stands for the i-th item of the list of atoms
@@ -76,9 +76,10 @@ put_term c m p = elim (is_zero c) [ true ↦ p | false ↦ record { coefficient 
 abbrev pub join_terms : Term → List Term → (List Term → List Term) → List Term → List Term
 join_terms t p rest [] = t ∷ p
 join_terms t p rest (s ∷ q) = elim (place t.factors s.factors) [
-    earlier ↦ t ∷ rest (s ∷ q)
+  | earlier ↦ t ∷ rest (s ∷ q)
   | same ↦ put_term (t.coefficient +ℤ s.coefficient) t.factors (rest q)
-  | later ↦ s ∷ join_terms t p rest q ]
+  | later ↦ s ∷ join_terms t p rest q
+]
 
 -- the sum of two sorted sums
 abbrev pub add_sums : List Term → List Term → List Term

@@ -1,5 +1,5 @@
 -- The laws of any commutative ring that follow from those of the record `Ring`.
-use Rattle.std.proofs.Common.{◌≡◌, ℤ, pos, negsuc, ◌+ℤ◌, ◌*ℤ◌, neg_ℤ, refl, sym, ap, ◌∙◌}
+use Rattle.std.proofs.Common.{◌≡◌, ℤ, pos, negsuc, neg_ℤ, sym, ap, ◌∙◌}
 use Rattle.exact_math.specs.Ring.{Ring}
 use Rattle.exact_math.specs.IntegerLaws as Z
 

@@ -2,7 +2,7 @@
 use Rattle.std.proofs.Common.{◌≡◌, ℕ, zero, suc, ℤ, pos, negsuc, ◌+ℤ◌, ◌*ℤ◌, nat_abs, Bool, true, false, eqb, ltb, List, [], ◌∷◌, refl, sym, ap, ◌∙◌, subst, ap₂, eqb-true}
 use Rattle.exact_math.specs.Ring.{Ring}
 use Rattle.exact_math.proofs.RingLaws as Laws
-use Rattle.exact_math.proofs.RingExpressions.{Expression, atom, number, plus, times, minus, atom_at, value, Term, product_of, term_value, sum_of, Place, earlier, same, later, place, join_factors, multiply_factors, is_zero, put_term, join_terms, add_sums, multiply_terms, scale_sum, multiply_sums, normal}
+use Rattle.exact_math.proofs.RingExpressions.{Expression, atom, number, plus, times, minus, atom_at, value, Term, product_of, term_value, sum_of, Place, earlier, same, later, place, join_factors, multiply_factors, put_term, join_terms, add_sums, multiply_terms, scale_sum, multiply_sums, normal}
 
 -- what holds of both answers of a choice holds of the choice
 of_choice : {X : Type 0} (P : X → Type 0) (b : Bool) (x y : X) → P x → P y → P (elim b [ true ↦ x | false ↦ y ])
@@ -30,8 +30,8 @@ module _ {A : Type 0} (r : Ring A) (atoms : List A) where
   join_factors_is i m rest h [] = sym (r.mul_one _)
   join_factors_is i m rest h (j ∷ n) =
       of_choice (λ l. product_of r atoms l ≡ r.mul (product_of r atoms (i ∷ m)) (product_of r atoms (j ∷ n))) (ltb j i) _ _
-        (ap (r.mul (atom_at r atoms j)) (join_factors_is i m rest h n) ∙ Laws.mul_left_comm r _ _ _)
-        (ap (r.mul (atom_at r atoms i)) (h (j ∷ n)) ∙ sym (r.mul_assoc _ _ _))
+      (ap (r.mul (atom_at r atoms j)) (join_factors_is i m rest h n) ∙ Laws.mul_left_comm r _ _ _)
+      (ap (r.mul (atom_at r atoms i)) (h (j ∷ n)) ∙ sym (r.mul_assoc _ _ _))
 
   -- the factors of a product mean the product
   multiply_factors_is : (m n : List ℕ) → product_of r atoms (multiply_factors m n) ≡ r.mul (product_of r atoms m) (product_of r atoms n)
@@ -53,9 +53,10 @@ module _ {A : Type 0} (r : Ring A) (atoms : List A) where
   join_terms_is t p rest h (s ∷ q) = go (place t.factors s.factors) refl (join_terms_is t p rest h q)
     where
       go : (k : Place) → place t.factors s.factors ≡ k → sum_of r atoms (join_terms t p rest q) ≡ r.add (sum_of r atoms (t ∷ p)) (sum_of r atoms q) → sum_of r atoms (elim k [
-          earlier ↦ t ∷ rest (s ∷ q)
+        | earlier ↦ t ∷ rest (s ∷ q)
         | same ↦ put_term (t.coefficient +ℤ s.coefficient) t.factors (rest q)
-        | later ↦ s ∷ join_terms t p rest q ]) ≡ r.add (sum_of r atoms (t ∷ p)) (sum_of r atoms (s ∷ q))
+        | later ↦ s ∷ join_terms t p rest q
+      ]) ≡ r.add (sum_of r atoms (t ∷ p)) (sum_of r atoms (s ∷ q))
       go earlier e ih = ap (r.add (term_value r atoms t)) (h (s ∷ q)) ∙ sym (r.add_assoc _ _ _)
       go same e ih =
           put_term_is (t.coefficient +ℤ s.coefficient) t.factors (rest q) ∙ ap (r.add _) (h q) ∙ like_terms t.coefficient s.coefficient _ _ _ _ (ap (product_of r atoms) (same_factors t.factors s.factors e))
@@ -108,14 +109,14 @@ pub record Position {A : Type 0} (r : Ring A) (atoms : List A) (z : A) : Type 0 
 abbrev pub reads_add : {A : Type 0} {r : Ring A} {atoms : List A} {x y : A} → Reading r atoms x → Reading r atoms y → Reading r atoms (r.add x y)
 reads_add {r = r} {y = y} e f = record {
   expression = plus e.expression f.expression;
-  means = ap₂ r.add e.means f.means
+  means = ap₂ r.add e.means f.means;
 }
 
 -- a product is read by its parts
 abbrev pub reads_mul : {A : Type 0} {r : Ring A} {atoms : List A} {x y : A} → Reading r atoms x → Reading r atoms y → Reading r atoms (r.mul x y)
 reads_mul {r = r} e f = record {
   expression = times e.expression f.expression;
-  means = ap₂ r.mul e.means f.means
+  means = ap₂ r.mul e.means f.means;
 }
 
 -- a negation is read by its part
@@ -171,3 +172,8 @@ pub ruleset reads = (reads_add, reads_mul, reads_neg, reads_atom, at_0, at_1, at
 pub ring : {A : Type 0} (r : Ring A) (atoms : List A) {x y : A} (e : Reading r atoms x) (f : Reading r atoms y) → normal e.expression ≡ normal f.expression → x ≡ y
 ring r atoms e f same_form = sym e.means ∙ normal_is r atoms e.expression ∙ ap (sum_of r atoms) same_form ∙ sym (normal_is r atoms f.expression) ∙ f.means
 
+-- the same under an equation `u ≡ v`, of which a multiple by `c` is used: x ≡ y where x + c v and y + c u have one normal form
+pub ring_with : {A : Type 0} (r : Ring A) (atoms : List A) {x y : A} (c u v : A) → u ≡ v → (e : Reading r atoms (r.add x (r.mul c v))) (f : Reading r atoms (r.add y (r.mul c u))) → normal e.expression ≡ normal f.expression → x ≡ y
+ring_with r atoms {x = x} {y = y} c u v h e f same_form =
+    let shifted : r.add (r.mul c v) x ≡ r.add (r.mul c v) y = r.add_comm _ x ∙ ring r atoms e f same_form ∙ ap (λ z. r.add y (r.mul c z)) h ∙ r.add_comm y _ in
+    Laws.add_cancel r (r.mul c v) x y shifted

@@ -1,2 +1,3 @@
 pub mod IntegerLaws
 pub mod Ring
+pub mod Determinants
