@@ -1,1 +1,4 @@
 pub mod Dot
+pub mod Sums
+pub mod Matrices
+pub mod Inequalities

@@ -1,0 +1,65 @@
+-- Dot products and inequalities over the whole numbers: a combination of inequalities with multipliers that are not negative is an inequality, weak duality, and the easy half of Farkas' lemma.
+use Rattle.std.proofs.Common.{◌≡◌, ℕ, zero, suc, ◌+◌, ◌*◌, ◌<◌, ◌≤◌, ℤ, pos, negsuc, ◌+ℤ◌, ◌*ℤ◌, neg_ℤ, nat_abs, ◌≤ℤ◌, ◌<ℤ◌, List, [], ◌∷◌, length, refl, sym, ap, ◌∙◌, subst, arith, All}
+use Rattle.exact_math.specs.Ring.{integers}
+use Rattle.exact_math.proofs.IntegerRing.{linear, expand}
+use Rattle.exact_math.proofs.IntegerOrder as Order
+use Rattle.exact_vectors.specs.Vectors.{dot, scale, add, zeros}
+use Rattle.exact_vectors.specs.Matrices.{HasWidth, times_vector, combination}
+use Rattle.exact_vectors.specs.Inequalities.{NotNegative, AtMost}
+use Rattle.exact_vectors.proofs.Dot as Dot
+use Rattle.exact_vectors.proofs.Matrices as Matrices
+
+-- the first item of a list with none negative
+pub first_nonneg : (a : ℤ) (v : List ℤ) → NotNegative (a ∷ v) → pos 0 ≤ℤ a
+first_nonneg a v h = h 0 (pos 0) (omega arith)
+
+-- the other items of a list with none negative
+pub rest_nonneg : (a : ℤ) (v : List ℤ) → NotNegative (a ∷ v) → NotNegative v
+rest_nonneg a v h = λ k d lt. h (suc k) d (omega arith)
+
+-- the dot product of lists with no item negative is not negative
+pub dot_nonneg : (v w : List ℤ) → NotNegative v → NotNegative w → pos 0 ≤ℤ dot integers v w
+dot_nonneg [] w h k = omega linear
+dot_nonneg (a ∷ v) [] h k = omega linear
+dot_nonneg (a ∷ v) (x ∷ w) h k =
+    omega (linear, Order.mul_nonneg a x (first_nonneg a v h) (first_nonneg x w k), dot_nonneg v w (rest_nonneg a v h) (rest_nonneg x w k))
+
+-- multipliers that are not negative keep an inequality
+pub dot_monotone : (m v w : List ℤ) → NotNegative m → AtMost v w → dot integers m v ≤ℤ dot integers m w
+dot_monotone [] v w h k = omega linear
+dot_monotone (a ∷ m) [] [] h k = omega linear
+dot_monotone (a ∷ m) [] (y ∷ w) h k = absurd k
+dot_monotone (a ∷ m) (x ∷ v) [] h k = absurd k
+dot_monotone (a ∷ m) (x ∷ v) (y ∷ w) h k =
+    let first : (a *ℤ x) ≤ℤ (a *ℤ y) = Order.mul_le a x y (first_nonneg a m h) k.0 in
+    let others : dot integers m v ≤ℤ dot integers m w = dot_monotone m v w (rest_nonneg a m h) k.1 in
+    omega linear
+
+-- the same with the multipliers on the right
+pub dot_monotone_right : (m v w : List ℤ) → NotNegative m → AtMost v w → dot integers v m ≤ℤ dot integers w m
+dot_monotone_right m v w h k = omega (linear, Dot.dot_comm integers v m, Dot.dot_comm integers w m, dot_monotone m v w h k)
+
+-- a combination of inequalities is an inequality: from A x ≤ b and m ≥ 0 follows (m A) x ≤ m b
+pub combination_le : (n : ℕ) (m : List ℤ) (rows : List (List ℤ)) (x b : List ℤ) → HasWidth n rows → NotNegative m → AtMost (times_vector integers rows x) b → dot integers (combination integers n m rows) x ≤ℤ dot integers m b
+combination_le n m rows x b width h k =
+    subst (λ z. z ≤ℤ dot integers m b) (Matrices.dot_times_vector integers n m rows x width) (dot_monotone m (times_vector integers rows x) b h k)
+
+-- weak duality: with x ≥ 0, y ≥ 0, A x ≤ b and c ≤ y A, the value c x is at most y b
+pub weak_duality : (n : ℕ) (y : List ℤ) (rows : List (List ℤ)) (x b c : List ℤ) → HasWidth n rows → NotNegative y → NotNegative x → AtMost (times_vector integers rows x) b → AtMost c (combination integers n y rows) → dot integers c x ≤ℤ dot integers y b
+weak_duality n y rows x b c width hy hx primal dual = Order.le_trans _ _ _ (dot_monotone_right x c (combination integers n y rows) hx dual) (combination_le n y rows x b width hy primal)
+
+-- the easy half of Farkas' lemma: where m ≥ 0, m A = 0 and m b < 0, no x has A x ≤ b
+pub farkas : (n : ℕ) (m : List ℤ) (rows : List (List ℤ)) (x b : List ℤ) → HasWidth n rows → NotNegative m → combination integers n m rows ≡ zeros integers n → dot integers m b <ℤ pos 0 → ¬ (AtMost (times_vector integers rows x) b)
+farkas n m rows x b width h vanishes negative k =
+    let zero_is : dot integers (combination integers n m rows) x ≡ pos 0 = ap (λ v. dot integers v x) vanishes ∙ Dot.dot-zeros_left integers n x in
+    let bound : dot integers (combination integers n m rows) x ≤ℤ dot integers m b = combination_le n m rows x b width h k in
+    omega linear
+
+-- a dot product is bounded by the number of its products, where each list's absolute values are bounded
+pub dot_bound : (v w : List ℤ) (p q : ℕ) → All (λ a. nat_abs a ≤ p) v → All (λ x. nat_abs x ≤ q) w → nat_abs (dot integers v w) ≤ length v * (p * q)
+dot_bound [] w p q h k = omega arith
+dot_bound (a ∷ v) [] p q h k = omega arith
+dot_bound (a ∷ v) (x ∷ w) p q h k =
+    let first : nat_abs (a *ℤ x) ≤ p * q = Order.abs_mul_le a x p q (h 0 (pos 0) (omega arith)) (k 0 (pos 0) (omega arith)) in
+    let others : nat_abs (dot integers v w) ≤ length v * (p * q) = dot_bound v w p q (λ i d lt. h (suc i) d (omega arith)) (λ i d lt. k (suc i) d (omega arith)) in
+    omega (arith, Order.abs_add_le (a *ℤ x) (dot integers v w))
