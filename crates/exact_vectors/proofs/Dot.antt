@@ -3,8 +3,8 @@ use Rattle.std.proofs.Common.{◌≡◌, ℕ, zero, suc, ◌+◌, ◌<◌, ◌�
 use Rattle.exact_math.specs.Ring.{Ring, integers}
 use Rattle.exact_math.specs.Determinants.{difference}
 use Rattle.exact_math.proofs.RingLaws as Laws
-use Rattle.exact_math.proofs.RingSolver.{ring, ring_with, reads}
-use Rattle.exact_vectors.specs.Vectors.{dot, sum, scale, negate, add, zeros}
+use Rattle.exact_math.proofs.RingSolver.{ring, reads}
+use Rattle.exact_vectors.specs.Vectors.{dot, scale, negate, add, zeros}
 
 -- over the whole numbers the first products come off the front
 pub dot_integers-cons : (a x : ℤ) (v w : List ℤ) → dot integers (a ∷ v) (x ∷ w) ≡ (a *ℤ x) +ℤ dot integers v w

@@ -1,9 +1,9 @@
 -- Dot products and inequalities over the whole numbers: a combination of inequalities with multipliers that are not negative is an inequality, weak duality, and the easy half of Farkas' lemma.
-use Rattle.std.proofs.Common.{◌≡◌, ℕ, zero, suc, ◌+◌, ◌*◌, ◌<◌, ◌≤◌, ℤ, pos, negsuc, ◌+ℤ◌, ◌*ℤ◌, neg_ℤ, nat_abs, ◌≤ℤ◌, ◌<ℤ◌, List, [], ◌∷◌, length, refl, sym, ap, ◌∙◌, subst, arith, All}
+use Rattle.std.proofs.Common.{◌≡◌, ℕ, suc, ◌*◌, ◌≤◌, ℤ, pos, ◌*ℤ◌, nat_abs, ◌≤ℤ◌, ◌<ℤ◌, List, [], ◌∷◌, length, ap, ◌∙◌, subst, arith, All}
 use Rattle.exact_math.specs.Ring.{integers}
-use Rattle.exact_math.proofs.IntegerRing.{linear, expand}
+use Rattle.exact_math.proofs.IntegerRing.{linear}
 use Rattle.exact_math.proofs.IntegerOrder as Order
-use Rattle.exact_vectors.specs.Vectors.{dot, scale, add, zeros}
+use Rattle.exact_vectors.specs.Vectors.{dot, zeros}
 use Rattle.exact_vectors.specs.Matrices.{HasWidth, times_vector, combination}
 use Rattle.exact_vectors.specs.Inequalities.{NotNegative, AtMost}
 use Rattle.exact_vectors.proofs.Dot as Dot

@@ -1,5 +1,5 @@
 -- The laws of matrices as lists of rows over any commutative ring.
-use Rattle.std.proofs.Common.{◌≡◌, ℕ, zero, suc, ◌+◌, ◌*◌, ◌<◌, ◌≤◌, pos, List, [], ◌∷◌, ◌++◌, length, get_or, take, drop, set, replicate, refl, sym, ap, ap₂, ◌∙◌, arith, length-take, length-drop, drop-drop, All}
+use Rattle.std.proofs.Common.{◌≡◌, ℕ, zero, suc, ◌+◌, ◌*◌, ◌<◌, ◌≤◌, pos, List, [], ◌∷◌, length, get_or, take, drop, set, replicate, refl, sym, ap, ap₂, ◌∙◌, arith, length-take, length-drop, drop-drop, All}
 use Rattle.exact_math.specs.Ring.{Ring}
 use Rattle.exact_math.proofs.RingLaws as Laws
 use Rattle.exact_vectors.specs.Vectors.{dot, scale, add, zeros}

@@ -1,5 +1,5 @@
 -- The laws of sums over any commutative ring: of a list's items, and of a function over the indices below a number.
-use Rattle.std.proofs.Common.{◌≡◌, ℕ, zero, suc, ◌<◌, ◌≤◌, pos, List, [], ◌∷◌, ◌++◌, length, get_or, refl, sym, ap, ◌∙◌, arith, lt-suc_self, lt_trans}
+use Rattle.std.proofs.Common.{◌≡◌, ℕ, zero, suc, ◌<◌, ◌≤◌, pos, List, [], ◌∷◌, ◌++◌, length, get_or, refl, sym, ap, ◌∙◌, arith}
 use Rattle.exact_math.specs.Ring.{Ring}
 use Rattle.exact_math.proofs.RingLaws as Laws
 use Rattle.exact_math.proofs.RingSolver.{ring, reads}

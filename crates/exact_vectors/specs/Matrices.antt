@@ -1,5 +1,5 @@
 -- Matrices over a commutative ring as lists of rows. The number of columns is given where an empty matrix would not show it.
-use Rattle.std.specs.Prelude.{◌≡◌, ℕ, zero, suc, List, [], ◌∷◌, map, length, get_or, take, drop, replicate, pos}
+use Rattle.std.specs.Prelude.{◌≡◌, ℕ, zero, suc, List, [], ◌∷◌, length, get_or, take, drop, replicate, pos}
 use Rattle.exact_math.specs.Ring.{Ring}
 use Rattle.exact_vectors.specs.Vectors.{dot, scale, add, zeros}
 
