@@ -1,6 +1,8 @@
 -- The order of the whole numbers under products. `omega linear` finds the linear combination once the products are given, as the two worked uses at the end show.
 use Rattle.std.proofs.Common.{◌≡◌, ℕ, suc, zero, ◌+◌, ◌*◌, ◌≤◌, ◌⊎◌, ℤ, pos, negsuc, ◌+ℤ◌, ◌-ℤ◌, ◌*ℤ◌, ◌≤ℤ◌, ◌<ℤ◌, neg_ℤ, nat_abs, refl, arith, ⊎_elim, mul-le-mul}
 use Rattle.std.proofs.lemmas.Int.{unsigned_abs-mul}
+use Rattle.exact_math.specs.Ordered.{IsOrdered}
+use Rattle.exact_math.specs.Ring.{integers}
 use Rattle.exact_math.proofs.IntegerRing.{expand, linear, mul_comm, mul_neg, neg_mul}
 
 -- a number is at most itself
@@ -135,6 +137,10 @@ abs_bounds a = omega linear
 -- a number between -n and n has an absolute value of at most n
 pub abs_le : (a : ℤ) (n : ℕ) → a ≤ℤ pos n → neg_ℤ (pos n) ≤ℤ a → nat_abs a ≤ n
 abs_le a n h k = omega linear
+
+-- the whole numbers are ordered
+pub integers_ordered : IsOrdered integers ◌≤ℤ◌
+integers_ordered = record { le_refl = le_refl; le_trans = le_trans; add_le = add_le; mul_nonneg = mul_nonneg }
 
 -- worked use: weak duality for two rows and two columns
 pub weak_duality_of_two : (a b c d p q r s x y u v : ℤ) → pos 0 ≤ℤ x → pos 0 ≤ℤ y → pos 0 ≤ℤ u → pos 0 ≤ℤ v → (a *ℤ x +ℤ b *ℤ y) ≤ℤ p → (c *ℤ x +ℤ d *ℤ y) ≤ℤ q → r ≤ℤ (u *ℤ a +ℤ v *ℤ c) → s ≤ℤ (u *ℤ b +ℤ v *ℤ d) → (r *ℤ x +ℤ s *ℤ y) ≤ℤ (u *ℤ p +ℤ v *ℤ q)

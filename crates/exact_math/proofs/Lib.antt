@@ -4,3 +4,4 @@ pub mod RingLaws
 pub mod RingExpressions
 pub mod RingSolver
 pub mod RingIdentities
+pub mod OrderedRing

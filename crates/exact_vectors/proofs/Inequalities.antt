@@ -1,58 +1,37 @@
--- Dot products and inequalities over the whole numbers: a combination of inequalities with multipliers that are not negative is an inequality, weak duality, and the easy half of Farkas' lemma.
-use Rattle.std.proofs.Common.{◌≡◌, ℕ, suc, ◌*◌, ◌≤◌, ℤ, pos, ◌*ℤ◌, nat_abs, ◌≤ℤ◌, ◌<ℤ◌, List, [], ◌∷◌, length, ap, ◌∙◌, subst, arith, All}
+-- Dot products and inequalities over the whole numbers: a combination of inequalities with multipliers that are not negative is an inequality, weak duality, and the easy half of Farkas' lemma. `proofs/OrderedVectors.antt` has them over any ordered ring.
+use Rattle.std.proofs.Common.{◌≡◌, ℕ, suc, ◌*◌, ◌≤◌, ℤ, pos, ◌*ℤ◌, nat_abs, ◌≤ℤ◌, ◌<ℤ◌, List, [], ◌∷◌, length, arith, All}
 use Rattle.exact_math.specs.Ring.{integers}
 use Rattle.exact_math.proofs.IntegerRing.{linear}
 use Rattle.exact_math.proofs.IntegerOrder as Order
 use Rattle.exact_vectors.specs.Vectors.{dot, zeros}
 use Rattle.exact_vectors.specs.Matrices.{HasWidth, times_vector, combination}
 use Rattle.exact_vectors.specs.Inequalities.{NotNegative, AtMost}
-use Rattle.exact_vectors.proofs.Dot as Dot
-use Rattle.exact_vectors.proofs.Matrices as Matrices
-
--- the first item of a list with none negative
-pub first_nonneg : (a : ℤ) (v : List ℤ) → NotNegative (a ∷ v) → pos 0 ≤ℤ a
-first_nonneg a v h = h 0 (pos 0) (omega arith)
-
--- the other items of a list with none negative
-pub rest_nonneg : (a : ℤ) (v : List ℤ) → NotNegative (a ∷ v) → NotNegative v
-rest_nonneg a v h = λ k d lt. h (suc k) d (omega arith)
+use Rattle.exact_vectors.proofs.OrderedVectors as Ordered
 
 -- the dot product of lists with no item negative is not negative
 pub dot_nonneg : (v w : List ℤ) → NotNegative v → NotNegative w → pos 0 ≤ℤ dot integers v w
-dot_nonneg [] w h k = omega linear
-dot_nonneg (a ∷ v) [] h k = omega linear
-dot_nonneg (a ∷ v) (x ∷ w) h k =
-    omega (linear, Order.mul_nonneg a x (first_nonneg a v h) (first_nonneg x w k), dot_nonneg v w (rest_nonneg a v h) (rest_nonneg x w k))
+dot_nonneg = Ordered.dot_nonneg integers ◌≤ℤ◌ Order.integers_ordered
 
 -- multipliers that are not negative keep an inequality
 pub dot_monotone : (m v w : List ℤ) → NotNegative m → AtMost v w → dot integers m v ≤ℤ dot integers m w
-dot_monotone [] v w h k = omega linear
-dot_monotone (a ∷ m) [] [] h k = omega linear
-dot_monotone (a ∷ m) [] (y ∷ w) h k = absurd k
-dot_monotone (a ∷ m) (x ∷ v) [] h k = absurd k
-dot_monotone (a ∷ m) (x ∷ v) (y ∷ w) h k =
-    let first : (a *ℤ x) ≤ℤ (a *ℤ y) = Order.mul_le a x y (first_nonneg a m h) k.0 in
-    let others : dot integers m v ≤ℤ dot integers m w = dot_monotone m v w (rest_nonneg a m h) k.1 in
-    omega linear
+dot_monotone = Ordered.dot_monotone integers ◌≤ℤ◌ Order.integers_ordered
 
 -- the same with the multipliers on the right
 pub dot_monotone_right : (m v w : List ℤ) → NotNegative m → AtMost v w → dot integers v m ≤ℤ dot integers w m
-dot_monotone_right m v w h k = omega (linear, Dot.dot_comm integers v m, Dot.dot_comm integers w m, dot_monotone m v w h k)
+dot_monotone_right = Ordered.dot_monotone_right integers ◌≤ℤ◌ Order.integers_ordered
 
 -- a combination of inequalities is an inequality: from A x ≤ b and m ≥ 0 follows (m A) x ≤ m b
 pub combination_le : (n : ℕ) (m : List ℤ) (rows : List (List ℤ)) (x b : List ℤ) → HasWidth n rows → NotNegative m → AtMost (times_vector integers rows x) b → dot integers (combination integers n m rows) x ≤ℤ dot integers m b
-combination_le n m rows x b width h k =
-    subst (λ z. z ≤ℤ dot integers m b) (Matrices.dot_times_vector integers n m rows x width) (dot_monotone m (times_vector integers rows x) b h k)
+combination_le = Ordered.combination_le integers ◌≤ℤ◌ Order.integers_ordered
 
 -- weak duality: with x ≥ 0, y ≥ 0, A x ≤ b and c ≤ y A, the value c x is at most y b
 pub weak_duality : (n : ℕ) (y : List ℤ) (rows : List (List ℤ)) (x b c : List ℤ) → HasWidth n rows → NotNegative y → NotNegative x → AtMost (times_vector integers rows x) b → AtMost c (combination integers n y rows) → dot integers c x ≤ℤ dot integers y b
-weak_duality n y rows x b c width hy hx primal dual = Order.le_trans _ _ _ (dot_monotone_right x c (combination integers n y rows) hx dual) (combination_le n y rows x b width hy primal)
+weak_duality = Ordered.weak_duality integers ◌≤ℤ◌ Order.integers_ordered
 
 -- the easy half of Farkas' lemma: where m ≥ 0, m A = 0 and m b < 0, no x has A x ≤ b
 pub farkas : (n : ℕ) (m : List ℤ) (rows : List (List ℤ)) (x b : List ℤ) → HasWidth n rows → NotNegative m → combination integers n m rows ≡ zeros integers n → dot integers m b <ℤ pos 0 → ¬ (AtMost (times_vector integers rows x) b)
 farkas n m rows x b width h vanishes negative k =
-    let zero_is : dot integers (combination integers n m rows) x ≡ pos 0 = ap (λ v. dot integers v x) vanishes ∙ Dot.dot-zeros_left integers n x in
-    let bound : dot integers (combination integers n m rows) x ≤ℤ dot integers m b = combination_le n m rows x b width h k in
+    let bound : pos 0 ≤ℤ dot integers m b = Ordered.farkas integers ◌≤ℤ◌ Order.integers_ordered n m rows x b width h vanishes k in
     omega linear
 
 -- a dot product is bounded by the number of its products, where each list's absolute values are bounded

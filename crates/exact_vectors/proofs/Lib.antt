@@ -1,4 +1,5 @@
 pub mod Dot
 pub mod Sums
 pub mod Matrices
+pub mod OrderedVectors
 pub mod Inequalities
