@@ -1,5 +1,5 @@
 -- The laws of any ordered commutative ring that follow from those of the record `IsOrdered`.
-use Rattle.std.proofs.Common.{◌≡◌, pos, List, [], ◌∷◌, refl, sym, ap, ◌∙◌, subst, subst₂}
+use Rattle.std.proofs.Common.{◌≡◌, pos, [], ◌∷◌, refl, subst, subst₂}
 use Rattle.exact_math.specs.Ordered.{IsOrdered}
 use Rattle.exact_math.specs.Ring.{Ring}
 use Rattle.exact_math.proofs.RingLaws as Laws
