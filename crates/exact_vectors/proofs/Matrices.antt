@@ -1,9 +1,9 @@
 -- The laws of matrices as lists of rows over any commutative ring.
-use Rattle.std.proofs.Common.{◌≡◌, ℕ, zero, suc, ◌+◌, ◌*◌, ◌<◌, ◌≤◌, pos, List, [], ◌∷◌, length, get_or, take, drop, set, replicate, refl, sym, ap, ap₂, ◌∙◌, arith, length-take, length-drop, drop-drop, All}
+use Rattle.std.proofs.Common.{◌≡◌, ℕ, zero, suc, ◌<◌, pos, List, [], ◌∷◌, length, get_or, set, replicate, refl, sym, ap, ap₂, ◌∙◌, arith, All}
 use Rattle.exact_math.specs.Ring.{Ring}
 use Rattle.exact_math.proofs.RingLaws as Laws
 use Rattle.exact_vectors.specs.Vectors.{dot, scale, add, zeros}
-use Rattle.exact_vectors.specs.Matrices.{HasWidth, times_vector, combination, column, put_row, transpose, times_matrix, rows_of}
+use Rattle.exact_vectors.specs.Matrices.{HasWidth, times_vector, combination, column, put_row, transpose, times_matrix}
 use Rattle.exact_vectors.proofs.Dot as Dot
 
 module _ {A : Type 0} (r : Ring A) where
@@ -154,32 +154,6 @@ module _ {A : Type 0} (r : Ring A) where
   pub times_vector-scale : (rows : List (List A)) (k : A) (x : List A) → times_vector r rows (scale r k x) ≡ scale r k (times_vector r rows x)
   times_vector-scale [] k x = refl
   times_vector-scale (row ∷ rows) k x = ap₂ (λ (z : A) (l : List A). z ∷ l) (Dot.dot-scale_right r k row x) (times_vector-scale rows k x)
-
--- the number of rows of a flat matrix
-pub length-rows_of : {A : Type 0} (n m : ℕ) (flat : List A) → length (rows_of n m flat) ≡ m
-length-rows_of n zero flat = refl
-length-rows_of n (suc m) flat = ap suc (length-rows_of n m (drop n flat))
-
--- a flat matrix with enough items has its width
-pub HasWidth-rows_of : {A : Type 0} (n m : ℕ) (flat : List A) → m * n ≤ length flat → HasWidth n (rows_of n m flat)
-HasWidth-rows_of n zero flat h = tt
-HasWidth-rows_of n (suc m) flat h =
-    let enough : n + m * n ≤ length flat = omega arith in
-    let first : length (take n flat) ≡ n = simp length-take (omega arith) in
-    let others : m * n ≤ length (drop n flat) = simp length-drop (omega arith) in
-    (first, HasWidth-rows_of n m (drop n flat) others)
-
--- the row of an index stands at its multiple of the width
-pub rows_of-at : {A : Type 0} (n m : ℕ) (flat : List A) (i : ℕ) (e : List A) → i < m → get_or (rows_of n m flat) i e ≡ take n (drop (i * n) flat)
-rows_of-at n zero flat i e h = absurd (omega arith)
-rows_of-at n (suc m) flat zero e h = ap (λ k. take n (drop k flat)) (zero-is n)
-  where
-    zero-is : (n : ℕ) → 0 ≡ 0 * n
-    zero-is n = omega arith
-rows_of-at n (suc m) flat (suc i) e h = rows_of-at n m (drop n flat) i e (omega arith) ∙ ap (take n) (drop-drop (i * n) n flat) ∙ ap (λ k. take n (drop k flat)) (next n i)
-  where
-    next : (n i : ℕ) → n + i * n ≡ suc i * n
-    next n i = omega arith
 
 -- the width of each row, said with std's word
 pub HasWidth-of_all : {A : Type 0} (n : ℕ) (rows : List (List A)) → All (λ row. length row ≡ n) rows → HasWidth n rows

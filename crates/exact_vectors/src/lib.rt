@@ -4,12 +4,12 @@
 #![tactic(auto)]
 
 ghost use Rattle.std.specs.List.{All};
-ghost use Rattle.std.specs.Prelude.{◌≡◌, ℕ, ◌+◌, ◌*◌, ◌<◌, ◌≤◌, ℤ, pos, ◌≤ℤ◌, ◌<ℤ◌, nat_abs, List, ◌++◌, length, get_or, set, drop};
+ghost use Rattle.std.specs.Prelude.{◌≡◌, ℕ, ◌+◌, ◌*◌, ◌<◌, ◌≤◌, ℤ, pos, ◌≤ℤ◌, ◌<ℤ◌, nat_abs, List, [], ◌++◌, length, get_or, set, drop};
 ghost use Rattle.exact_math.specs.Determinants.{difference};
 ghost use Rattle.exact_math.specs.Ring.{Ring, integers};
 ghost use Rattle.exact_vectors.specs.Inequalities.{AtMost, NotNegative};
-ghost use Rattle.exact_vectors.specs.Matrices.{HasWidth, column, combination, times_matrix, times_vector, transpose};
-ghost use Rattle.exact_vectors.specs.Vectors.{add, dot, scale, zeros};
+ghost use Rattle.exact_vectors.specs.Matrices.{HasWidth, column, combination, rows_of, times_matrix, times_vector, transpose};
+ghost use Rattle.exact_vectors.specs.Vectors.{add, dot, scale, sum_below, zeros};
 
 mod checked;
 
@@ -23,14 +23,17 @@ pub fn dot_product_laws<T>()
     ensures joined { (r : Ring T) (u v x y : List T) → length u ≡ length x → dot r (u ++ v) (x ++ y) ≡ r.add (dot r u x) (dot r v y) }
     ensures one_item { (r : Ring T) (v w : List T) (i : ℕ) (b d : T) → i < length v → dot r (set v i b) w ≡ r.add (dot r v w) (r.mul (difference r b (get_or v i d)) (get_or w i (r.literal (pos 0)))) }
     ensures suffix { (r : Ring T) (v w : List T) (i : ℕ) (d e : T) → i < length v → i < length w → dot r (drop i v) (drop i w) ≡ r.add (r.mul (get_or v i d) (get_or w i e)) (dot r (drop (i + 1) v) (drop (i + 1) w)) }
+    ensures by_index { (r : Ring T) (v w : List T) (n : ℕ) → length v ≤ n → dot r v w ≡ sum_below r n (λ i. r.mul (get_or v i (r.literal (pos 0))) (get_or w i (r.literal (pos 0)))) }
 {}
 
-/// The laws of products of matrices, given by their rows, over any commutative ring. It does nothing.
+/// The laws of products of matrices, given by their rows, over any commutative ring, and of matrices in one list in row order. It does nothing.
 pub fn matrix_laws<T>()
     ensures transposed { (r : Ring T) (n : ℕ) (y : List T) (rows : List (List T)) (x : List T) → HasWidth n rows → dot r y (times_vector r rows x) ≡ dot r (combination r n y rows) x }
     ensures by_column { (r : Ring T) (n : ℕ) (y : List T) (rows : List (List T)) (j : ℕ) → HasWidth n rows → get_or (combination r n y rows) j (r.literal (pos 0)) ≡ dot r y (column r rows j) }
     ensures by_transpose { (r : Ring T) (n : ℕ) (rows : List (List T)) (y : List T) → HasWidth n rows → length y ≡ length rows → times_vector r (transpose n rows) y ≡ combination r n y rows }
     ensures composed { (r : Ring T) (n : ℕ) (left right : List (List T)) (x : List T) → HasWidth n right → times_vector r (times_matrix r n left right) x ≡ times_vector r left (times_vector r right x) }
+    ensures flat_item { (n m : ℕ) (flat : List T) (i j : ℕ) (d : T) → i < m → j < n → get_or (get_or (rows_of n m flat) i []) j d ≡ get_or flat (i * n + j) d }
+    ensures flat_set { (n m : ℕ) (flat : List T) (i j : ℕ) (b : T) → i < m → j < n → rows_of n m (set flat (i * n + j) b) ≡ set (rows_of n m flat) i (set (get_or (rows_of n m flat) i []) j b) }
 {}
 
 /// Combinations of inequalities over the whole numbers: weak duality, and the easy half of Farkas' lemma. It does nothing.

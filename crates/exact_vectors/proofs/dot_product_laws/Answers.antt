@@ -1,3 +1,4 @@
+use Rattle.exact_vectors.proofs.Sums as Sums
 use Rattle.exact_vectors.proofs.Dot as Dot
 use Rattle.exact_vectors.proofs.dot_product_laws.Goals as goal
 
@@ -18,3 +19,6 @@ returns-clause-one_item g c = Dot.dot-set_left
 
 pub returns-clause-suffix : goal.returns-clause-suffix
 returns-clause-suffix g c = Dot.dot-drop
+
+pub returns-clause-by_index : goal.returns-clause-by_index
+returns-clause-by_index g c = Sums.dot-by_index

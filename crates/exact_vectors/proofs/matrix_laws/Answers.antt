@@ -1,3 +1,4 @@
+use Rattle.exact_vectors.proofs.FlatMatrices as FlatMatrices
 use Rattle.exact_vectors.proofs.Matrices as Matrices
 use Rattle.exact_vectors.proofs.matrix_laws.Goals as goal
 
@@ -12,3 +13,9 @@ returns-clause-by_transpose g c = Matrices.times_transpose
 
 pub returns-clause-composed : goal.returns-clause-composed
 returns-clause-composed g c = Matrices.times_matrix_vector
+
+pub returns-clause-flat_item : goal.returns-clause-flat_item
+returns-clause-flat_item g c = FlatMatrices.rows_of-item
+
+pub returns-clause-flat_set : goal.returns-clause-flat_set
+returns-clause-flat_set g c = FlatMatrices.rows_of-set
