@@ -1,0 +1,100 @@
+//! The integer rows of a model.
+ghost use Rattle.std.specs.Prelude.{◌≡◌, ◌^◌, ◌≤◌, ◌<◌, ◌↔◌, ◌++◌, ◌∷◌, [], ℤ, List, length, All, IfOk, OnOk, IsTrue};
+ghost use Rattle.int_model.specs.Points.{IsPoint, IsWithin};
+ghost use Rattle.int_model.specs.Dot.{dot};
+ghost use Rattle.int_model.specs.WholeRows.{LiesIn, Meets, row_at, bounds_at, span, reach, weight, IsLight, IsWithinLimits};
+ghost use Rattle.int_model.specs.IntegerRows.{integer_rows, factors_of, IsDistinctBelow, bounds_of};
+
+use crate::bounds::Bounds;
+use crate::model::{Column, Item, Model as Program};
+use sequence::NoMemory;
+use std::alloc::Global;
+use std::marker::Model;
+
+/// The sides of a row.
+#[derive(Clone, Copy, Debug, Drop)]
+struct Sides {
+    low: Option<i128>,
+    high: Option<i128>,
+}
+
+/// Rows of whole numbers with a factor for each column, and the bounds of the columns. The factors lie
+/// row after row in one vector.
+#[derive(Debug, Drop)]
+pub struct IntRows {
+    columns: Vec<Bounds>,
+    factors: Vec<i128>,
+    sides: Vec<Sides>,
+}
+
+impl Model for IntRows {
+    ghost use Rattle.int_model.specs.WholeRows.{WholeRows};
+
+    ghost Value = { WholeRows };
+
+    ghost use Rattle.int_model.specs.FlatRows.{whole_rows, IsFlat};
+
+    ghost view = { λ rows. whole_rows rows.columns.items rows.factors.items rows.sides.items };
+
+    ghost invariant = { λ rows. IsFlat rows.columns.items rows.factors.items rows.sides.items };
+}
+
+impl IntRows {
+    /// How many columns there are.
+    pub fn columns(&self) -> usize
+        ensures count { result ≡ length self.now.box }
+        ensures limits { IsWithinLimits self.now }
+    {
+        self.columns.len()
+    }
+
+    /// How many rows there are.
+    pub fn rows(&self) -> usize
+        ensures count { result ≡ length self.now.rows }
+        ensures limits { IsWithinLimits self.now }
+    {
+        self.sides.len()
+    }
+
+    /// Lends the factors of row `i`, one for each column.
+    pub fn row(&self, i: usize) -> &[i128]
+        requires { i < length self.now.rows }
+        ensures factors { result.now ≡ (row_at self.now i).factors }
+        ensures dense { length result.now ≡ length self.now.box }
+    {
+        let width = self.columns.len();
+        &self.factors[i * width..i * width + width]
+    }
+
+    /// The lower side of row `i`.
+    pub fn low(&self, i: usize) -> Option<i128>
+        requires { i < length self.now.rows }
+        ensures { result ≡ (row_at self.now i).low }
+    {
+        self.sides[i].low
+    }
+
+    /// The upper side of row `i`.
+    pub fn high(&self, i: usize) -> Option<i128>
+        requires { i < length self.now.rows }
+        ensures { result ≡ (row_at self.now i).high }
+    {
+        self.sides[i].high
+    }
+
+    /// The least value of column `j`.
+    pub fn box_low(&self, j: usize) -> i128
+        requires { j < length self.now.box }
+        ensures { result ≡ (bounds_at self.now j).low }
+    {
+        self.columns[j].low
+    }
+
+    /// The greatest value of column `j`.
+    pub fn box_high(&self, j: usize) -> i128
+        requires { j < length self.now.box }
+        ensures { result ≡ (bounds_at self.now j).high }
+    {
+        self.columns[j].high
+    }
+}
