@@ -1,4 +1,3 @@
-pub mod Dot
 pub mod Points
 pub mod WholeRows
 pub mod IntegerRows

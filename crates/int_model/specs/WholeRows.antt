@@ -2,7 +2,8 @@
 use Rattle.std.specs.Prelude.{◌≡◌, ℕ, ◌+◌, ◌*◌, ◌^◌, ◌≤◌, max, ℤ, pos, ◌≤ℤ◌, List, [], ◌∷◌, length, Option, Some, None, All, slice_index_or, unsigned_abs}
 use Rattle.std.specs.List.{AllZip}
 use Rattle.int_model.specs.declared.bounds.Bounds.{Bounds}
-use Rattle.int_model.specs.Dot.{dot}
+use Rattle.exact_math.specs.Ring.{integers}
+use Rattle.exact_vectors.specs.Vectors.{dot}
 use Rattle.int_model.specs.Points.{IsWithin}
 
 -- the sum of each factor times the value in its place lies between the sides
@@ -22,7 +23,7 @@ LiesIn box x = AllZip (λ (bounds : Bounds) value. (bounds.low ≤ℤ value) × 
 
 -- the row's sum lies between its sides
 abbrev pub MeetsRow : WholeRow → List ℤ → Type 0
-MeetsRow row x = IsWithin row.low row.high (dot row.factors x)
+MeetsRow row x = IsWithin row.low row.high (dot integers row.factors x)
 
 -- x lies in the box and meets each row
 pub record Meets (rows : WholeRows) (x : List ℤ) : Type 0 where

@@ -1,7 +1,8 @@
 //! The integer rows of a model.
 ghost use Rattle.std.specs.Prelude.{◌≡◌, ◌^◌, ◌≤◌, ◌<◌, ◌↔◌, ◌++◌, ◌∷◌, [], ℤ, List, length, All, IfOk, OnOk, IsTrue};
 ghost use Rattle.int_model.specs.Points.{IsPoint, IsWithin};
-ghost use Rattle.int_model.specs.Dot.{dot};
+ghost use Rattle.exact_math.specs.Ring.{integers};
+ghost use Rattle.exact_vectors.specs.Vectors.{dot};
 ghost use Rattle.int_model.specs.WholeRows.{LiesIn, Meets, row_at, bounds_at, span, reach, weight, IsLight, IsWithinLimits};
 ghost use Rattle.int_model.specs.IntegerRows.{integer_rows, factors_of, IsDistinctBelow, bounds_of};
 
