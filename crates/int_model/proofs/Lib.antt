@@ -1,1 +1,4 @@
 pub mod FlatLemmas
+pub mod SumLemmas
+pub mod WholeRowLemmas
+pub mod FactorLemmas

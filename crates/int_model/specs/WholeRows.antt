@@ -68,3 +68,9 @@ pub record IsWithinLimits (rows : WholeRows) : Type 0 where
   pub few_rows : length rows.rows ≤ 256
   pub dense : All (λ (row : WholeRow). length row.factors ≡ length rows.box) rows.rows
   pub light : IsLight rows
+
+-- the sum of the sizes of the products: no part of the sum of the products is larger in size
+abbrev pub size_sum : List ℤ → List ℤ → ℕ
+size_sum [] x = 0
+size_sum (factor ∷ factors) [] = 0
+size_sum (factor ∷ factors) (value ∷ x) = unsigned_abs factor * unsigned_abs value + size_sum factors x

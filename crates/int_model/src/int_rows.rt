@@ -3,11 +3,11 @@ ghost use Rattle.std.specs.Prelude.{◌≡◌, ◌^◌, ◌≤◌, ◌<◌, ◌�
 ghost use Rattle.int_model.specs.Points.{IsPoint, IsWithin};
 ghost use Rattle.exact_math.specs.Ring.{integers};
 ghost use Rattle.exact_vectors.specs.Vectors.{dot};
-ghost use Rattle.int_model.specs.WholeRows.{LiesIn, Meets, row_at, bounds_at, span, reach, weight, IsLight, IsWithinLimits};
+ghost use Rattle.int_model.specs.WholeRows.{LiesIn, Meets, MeetsRow, row_at, bounds_at, span, reach, weight, IsLight, IsWithinLimits};
 ghost use Rattle.int_model.specs.IntegerRows.{integer_rows, factors_of, IsDistinctBelow, bounds_of};
 
 use crate::bounds::Bounds;
-use crate::model::{Column, Item, Model as Program};
+use crate::sums::{dot_product, is_within, lies_in};
 use sequence::NoMemory;
 use std::alloc::Global;
 use std::marker::Model;
@@ -62,6 +62,7 @@ impl IntRows {
         requires { i < length self.now.rows }
         ensures factors { result.now ≡ (row_at self.now i).factors }
         ensures dense { length result.now ≡ length self.now.box }
+        ensures light { span result.now self.now.box ≤ 2 ^ 96 }
     {
         let width = self.columns.len();
         &self.factors[i * width..i * width + width]
@@ -97,5 +98,27 @@ impl IntRows {
         ensures { result ≡ (bounds_at self.now j).high }
     {
         self.columns[j].high
+    }
+
+    /// Whether `x` is a point: a value for each column, within the box, that meets each row. It takes any
+    /// slice, of any length.
+    pub fn is_point(&self, x: &[i128]) -> bool
+        ensures { IsTrue result ↔ Meets self.now x.now }
+    {
+        lies_in(&self.columns, x) && self.meets_rows(x)
+    }
+
+    /// Whether values within the box meet each row.
+    fn meets_rows(&self, x: &[i128]) -> bool
+        requires { LiesIn self.now.box x.now }
+        ensures { IsTrue result ↔ All (λ row. MeetsRow row x.now) self.now.rows }
+    {
+        for i in 0..self.rows() {
+            let value = dot_product(self.row(i), x);
+            if !is_within(self.low(i), self.high(i), value) {
+                return false;
+            }
+        }
+        true
     }
 }

@@ -2,8 +2,10 @@
 #![tactic(auto)]
 
 mod bounds;
+mod dense;
 mod int_rows;
 mod model;
+mod sums;
 
 pub use bounds::Bounds;
 pub use int_rows::IntRows;
