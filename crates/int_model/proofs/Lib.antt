@@ -2,3 +2,5 @@ pub mod FlatLemmas
 pub mod SumLemmas
 pub mod WholeRowLemmas
 pub mod FactorLemmas
+pub mod IntegerRowLemmas
+pub mod PointLemmas

@@ -1,5 +1,5 @@
 //! The integer rows of a model.
-ghost use Rattle.std.specs.Prelude.{◌≡◌, ◌^◌, ◌≤◌, ◌<◌, ◌↔◌, ◌++◌, ◌∷◌, [], ℤ, List, length, All, IfOk, OnOk, IsTrue};
+ghost use Rattle.std.specs.Prelude.{◌≡◌, ◌^◌, ◌≤◌, ◌<◌, ◌↔◌, ◌++◌, ◌∷◌, [], ℤ, List, length, map, All, IfOk, IsTrue};
 ghost use Rattle.int_model.specs.Points.{IsPoint, IsWithin};
 ghost use Rattle.exact_math.specs.Ring.{integers};
 ghost use Rattle.exact_vectors.specs.Vectors.{dot};
@@ -7,6 +7,8 @@ ghost use Rattle.int_model.specs.WholeRows.{LiesIn, Meets, MeetsRow, row_at, bou
 ghost use Rattle.int_model.specs.IntegerRows.{integer_rows, factors_of, IsDistinctBelow, bounds_of};
 
 use crate::bounds::Bounds;
+use crate::dense::push_factors;
+use crate::model::{Column, Model as Program};
 use crate::sums::{dot_product, is_within, lies_in};
 use sequence::NoMemory;
 use std::alloc::Global;
@@ -41,6 +43,32 @@ impl Model for IntRows {
 }
 
 impl IntRows {
+    /// The integer rows of a model. The numbers are kept as they are.
+    pub fn of(alloc: Global, model: &Program) -> Result<IntRows, NoMemory>
+        requires few_columns { length model.now.columns ≤ 256 }
+        requires few_rows { length model.now.rows ≤ 256 }
+        requires items { All (λ row. IsDistinctBelow (length model.now.columns) row.items) model.now.rows }
+        requires light { IsLight (integer_rows model.now) }
+        ensures rows { IfOk result (λ rows. rows ≡ integer_rows model.now) }
+        ensures points { IfOk result (λ rows. (x : List ℤ) → IsPoint model.now x ↔ Meets rows x) }
+    {
+        let columns = bounds_of_columns(alloc, model.columns.items())?;
+        let mut factors = Vec::new(alloc);
+        let mut sides = Vec::new(alloc);
+        for row in model.rows.items() {
+            push_factors(&mut factors, columns.len(), row.items.items())?;
+            sides.push(Sides {
+                low: row.lo,
+                high: row.hi,
+            })?;
+        }
+        Ok(IntRows {
+            columns,
+            factors,
+            sides,
+        })
+    }
+
     /// How many columns there are.
     pub fn columns(&self) -> usize
         ensures count { result ≡ length self.now.box }
@@ -121,4 +149,18 @@ impl IntRows {
         }
         true
     }
+}
+
+/// The bounds of the columns, in order.
+fn bounds_of_columns(alloc: Global, columns: &[Column]) -> Result<Vec<Bounds>, NoMemory>
+    ensures { IfOk result (λ bounds. bounds.items ≡ map bounds_of columns.now) }
+{
+    let bounds = columns
+        .iter()
+        .map(|column| Bounds {
+            low: column.lo,
+            high: column.hi,
+        })
+        .collect(alloc)?;
+    Ok(bounds)
 }
