@@ -9,11 +9,11 @@ use Rattle.int_model.specs.declared.model.Item.{Item}
 use Rattle.int_model.specs.IntegerRows.{factor_of}
 
 -- a first term in the column
-factor_of-head : (item : Item) (items : List Item) (j : ℕ) → item.column ≡ j → factor_of (item ∷ items) j ≡ item.factor +ℤ factor_of items j
+pub factor_of-head : (item : Item) (items : List Item) (j : ℕ) → item.column ≡ j → factor_of (item ∷ items) j ≡ item.factor +ℤ factor_of items j
 factor_of-head item items j e = ap (λ t. t +ℤ factor_of items j) (cond-true (eqb item.column j) item.factor (pos 0) (eq-eqb item.column j e))
 
 -- a first term in another column
-factor_of-tail : (item : Item) (items : List Item) (j : ℕ) → item.column ≢ j → factor_of (item ∷ items) j ≡ factor_of items j
+pub factor_of-tail : (item : Item) (items : List Item) (j : ℕ) → item.column ≢ j → factor_of (item ∷ items) j ≡ factor_of items j
 factor_of-tail item items j n = ap (λ t. t +ℤ factor_of items j) (cond-false (eqb item.column j) item.factor (pos 0) (ne_eqb item.column j n)) ∙ zero_add (factor_of items j)
 
 -- a column that no term names has the factor 0

@@ -50,11 +50,11 @@ IsFlat-of model box factors sides is_box holds few_columns few_rows light =
       few_columns = omega (arith, length-map model.columns bounds_of);
       few_rows = omega (arith, length-map model.rows (whole_row n));
       dense = All-map (λ (row : WholeRow). length row.factors ≡ length (map bounds_of model.columns)) (whole_row n) model.rows (λ k d h. length-factors_of n _ ∙ sym (length-map model.columns bounds_of));
-      light = light
+      light = light;
     } in
     record {
       filled = rw (holds.in_factors, holds.in_sides, is_box, length-map model.rows row_sides, length-map model.columns bounds_of) (length-flat_map n model.rows);
-      limits = subst IsWithinLimits (sym (whole_rows-is model box factors sides is_box holds)) limits
+      limits = subst IsWithinLimits (sym (whole_rows-is model box factors sides is_box holds)) limits;
     }
 
 -- after the last row the vectors hold all

@@ -4,3 +4,5 @@ pub mod WholeRowLemmas
 pub mod FactorLemmas
 pub mod IntegerRowLemmas
 pub mod PointLemmas
+pub mod LightLemmas
+pub mod DistinctLemmas

@@ -84,9 +84,9 @@ rows-in n (row ∷ rows) x distinct long h =
 
 -- a list is a point of the model exactly where it meets the integer rows
 pub points_meet_integer_rows : (model : Model) → All (λ (row : Row). IsDistinctBelow (length model.columns) row.items) model.rows → (x : List ℤ) → IsPoint model x ↔ Meets (integer_rows model) x
-points_meet_integer_rows model distinct x =
-    ( (λ point. record { in_box = bounds-out model.columns x point.in_bounds; in_rows = rows-out (length model.columns) model.rows x distinct (AllZip-long _ _ _ point.in_bounds) point.in_sides })
-    , (λ meets.
-        let within = bounds-in model.columns x meets.in_box in
-        record { in_bounds = within; in_sides = rows-in (length model.columns) model.rows x distinct (AllZip-long _ _ _ within) meets.in_rows })
-    )
+points_meet_integer_rows model distinct x = (
+  (λ point. record { in_box = bounds-out model.columns x point.in_bounds; in_rows = rows-out (length model.columns) model.rows x distinct (AllZip-long _ _ _ point.in_bounds) point.in_sides }),
+  (λ meets.
+      let within = bounds-in model.columns x meets.in_box in
+      record { in_bounds = within; in_sides = rows-in (length model.columns) model.rows x distinct (AllZip-long _ _ _ within) meets.in_rows }),
+)

@@ -27,7 +27,7 @@ pub record IsSumUpTo (a x : List ℤ) (i : ℕ) (sum : ℤ) : Type 0 where
 pub IsSumUpTo-more : (a x : List ℤ) (i : ℕ) (sum : ℤ) → i < length a → i < length x → IsSumUpTo a x i sum → IsSumUpTo a x (i + 1) (sum +ℤ get_or a i (pos 0) *ℤ get_or x i (pos 0))
 IsSumUpTo-more a x i sum h k s = record {
   value = add_assoc sum (get_or a i (pos 0) *ℤ get_or x i (pos 0)) _ ∙ ap (λ t. sum +ℤ t) (sym (dot-drop a x i h k)) ∙ s.value;
-  small = omega (arith, s.small, size_sum-drop a x i h k, abs_mul (get_or a i (pos 0)) (get_or x i (pos 0)), abs_add_le sum (get_or a i (pos 0) *ℤ get_or x i (pos 0)))
+  small = omega (arith, s.small, size_sum-drop a x i h k, abs_mul (get_or a i (pos 0)) (get_or x i (pos 0)), abs_add_le sum (get_or a i (pos 0) *ℤ get_or x i (pos 0)));
 }
 
 -- the product and the sum fit 128 bits

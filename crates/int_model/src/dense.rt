@@ -6,7 +6,11 @@ use crate::model::Item;
 use sequence::NoMemory;
 
 /// Puts a factor for each of `width` columns at the end: that of the column's term, or 0.
-pub(crate) fn push_factors(factors: &mut Vec<i128>, width: usize, items: &[Item]) -> Result<(), NoMemory>
+pub(crate) fn push_factors(
+    factors: &mut Vec<i128>,
+    width: usize,
+    items: &[Item],
+) -> Result<(), NoMemory>
     requires { IsDistinctBelow width items.now }
     ensures { OnOk result (factors.new.items ≡ factors.old.items ++ factors_of width items.now) }
 {

@@ -80,7 +80,7 @@ span-drop end factors bounds i h k =
 pub IsSumUpTo-more : (end : End) (factors : List ℤ) (bounds : List Bounds) (i : ℕ) (sum : ℤ) → i < length factors → i < length bounds → IsSumUpTo end factors bounds i sum → IsSumUpTo end factors bounds (i + 1) (sum +ℤ product_at end factors bounds i)
 IsSumUpTo-more end factors bounds i sum h k s = record {
   value = add_assoc sum (product_at end factors bounds i) _ ∙ ap (λ t. sum +ℤ t) (sym (sum_at-drop end factors bounds i h k)) ∙ s.value;
-  small = omega (arith, s.small, span-drop end factors bounds i h k, abs_add_le sum (product_at end factors bounds i))
+  small = omega (arith, s.small, span-drop end factors bounds i h k, abs_add_le sum (product_at end factors bounds i));
 }
 
 -- the product and the sum fit 128 bits

@@ -46,17 +46,17 @@ ReachesSides-read row bounds factors low high is_factors is_low is_high = rw (is
 
 -- where values within the bounds meet a row, the row's ends reach its sides
 pub ReachesSides-of : (row : WholeRow) (bounds : List Bounds) (x : List ℤ) → LiesIn bounds x → MeetsRow row x → ReachesSides row.factors row.low row.high bounds
-ReachesSides-of row bounds x lies meets =
-    ( side_weaker row.low (λ l. l ≤ℤ dot integers row.factors x) (λ l. l ≤ℤ sum_at Greatest row.factors bounds) (λ l h. le_trans l (dot integers row.factors x) (sum_at Greatest row.factors bounds) h (greatest_sum row.factors bounds x lies)) meets.0
-    , side_weaker row.high (λ h. dot integers row.factors x ≤ℤ h) (λ h. sum_at Least row.factors bounds ≤ℤ h) (λ h k. le_trans (sum_at Least row.factors bounds) (dot integers row.factors x) h (least_sum row.factors bounds x lies) k) meets.1
-    )
+ReachesSides-of row bounds x lies meets = (
+  side_weaker row.low (λ l. l ≤ℤ dot integers row.factors x) (λ l. l ≤ℤ sum_at Greatest row.factors bounds) (λ l h. le_trans l (dot integers row.factors x) (sum_at Greatest row.factors bounds) h (greatest_sum row.factors bounds x lies)) meets.0,
+  side_weaker row.high (λ h. dot integers row.factors x ≤ℤ h) (λ h. sum_at Least row.factors bounds ≤ℤ h) (λ h k. le_trans (sum_at Least row.factors bounds) (dot integers row.factors x) h (least_sum row.factors bounds x lies) k) meets.1,
+)
 
 -- at fixed columns the row is then met
 pub MeetsRow-fixed : (row : WholeRow) (bounds : List Bounds) → AllFixed bounds → ReachesSides row.factors row.low row.high bounds → MeetsRow row (lows bounds)
-MeetsRow-fixed row bounds fixed reaches =
-    ( subst (λ v. IfSome row.low (λ l. l ≤ℤ v)) (sum_at-fixed Greatest row.factors bounds fixed) reaches.0
-    , subst (λ v. IfSome row.high (λ h. v ≤ℤ h)) (sum_at-fixed Least row.factors bounds fixed) reaches.1
-    )
+MeetsRow-fixed row bounds fixed reaches = (
+  subst (λ v. IfSome row.low (λ l. l ≤ℤ v)) (sum_at-fixed Greatest row.factors bounds fixed) reaches.0,
+  subst (λ v. IfSome row.high (λ h. v ≤ℤ h)) (sum_at-fixed Least row.factors bounds fixed) reaches.1,
+)
 
 -- ---- the box
 
@@ -134,7 +134,7 @@ pub IsSlicedTo-none : (rows : WholeRows) (start : List Bounds) (column : ℕ) �
 IsSlicedTo-none rows start column h = record {
   restored = set-get_or start column (record { low = pos 0; high = pos 0 });
   above = omega linear;
-  passed = λ x lies below meets. absurd (omega (linear, within-at start x column lies h))
+  passed = λ x lies below meets. absurd (omega (linear, within-at start x column lies h));
 }
 
 -- the slice that is looked at is one of the start
@@ -147,11 +147,11 @@ IsSlicedTo-more rows start now column b value h s none = record {
   restored = set-set now column (fixed_at value) b ∙ s.restored;
   above = omega (linear, s.above);
   passed = λ x lies below meets. ⊎_elim
-    (λ (before : get_or x column (pos 0) <ℤ value). s.passed x lies before meets)
-    (λ (e : value ≤ℤ get_or x column (pos 0)).
+      (λ (before : get_or x column (pos 0) <ℤ value). s.passed x lies before meets)
+      (λ (e : value ≤ℤ get_or x column (pos 0)).
       let is : get_or x column (pos 0) ≡ value = omega linear in
       none x (rw (slice-of rows start now column b value s) (LiesIn-set start x column value lies h is)) meets)
-    (lt_or_le (get_or x column (pos 0)) value)
+      (lt_or_le (get_or x column (pos 0)) value);
 }
 
 -- after the last slice none has a point

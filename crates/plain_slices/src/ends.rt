@@ -40,7 +40,12 @@ impl End {
 }
 
 /// Whether both ends of the row's sum allow for its sides.
-pub(crate) fn reaches_sides(factors: &[i128], low: Option<i128>, high: Option<i128>, bounds: &[Bounds]) -> bool
+pub(crate) fn reaches_sides(
+    factors: &[i128],
+    low: Option<i128>,
+    high: Option<i128>,
+    bounds: &[Bounds],
+) -> bool
     requires same_length { length factors.now ≡ length bounds.now }
     requires light { span factors.now bounds.now ≤ 2 ^ 96 }
     ensures { IsTrue result ↔ ReachesSides factors.now low high bounds.now }

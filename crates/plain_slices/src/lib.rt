@@ -3,6 +3,7 @@
 
 mod ends;
 mod search;
+#[cfg(test)]
+mod tests;
 
 pub use search::plain_point;
-

@@ -79,8 +79,8 @@ returns-clause-none t c =
     let high_fits : FitsSigned w128 (at c.args.bounds.now c.args.column).high = search rules in
     let sliced = simp to_z-of_z at c.loop-value.invariant in
     elim c.loop-value-test.branch [
-      else-loop-value-test w ↦ IsSlicedTo-all c.args.rows.now c.args.bounds.now c.loop-value.bounds c.args.column (at c.args.bounds.now c.args.column) (to_z w128 c.loop-value.value-bits) within sliced (omega (linear, simp to_z-of_z at w.loop-value-test.false))
-    | then-loop-value-test+else-find_point+else-value-high w ↦ IsSlicedTo-all c.args.rows.now c.args.bounds.now _ c.args.column (at c.args.bounds.now c.args.column) (to_z w128 c.loop-value.value-bits +ℤ pos 1) within (IsSlicedTo-more c.args.rows.now c.args.bounds.now c.loop-value.bounds c.args.column (at c.args.bounds.now c.args.column) (to_z w128 c.loop-value.value-bits) within sliced w.if-find_point.ensures.none) (omega (arith, ints))
+      | else-loop-value-test w ↦ IsSlicedTo-all c.args.rows.now c.args.bounds.now c.loop-value.bounds c.args.column (at c.args.bounds.now c.args.column) (to_z w128 c.loop-value.value-bits) within sliced (omega (linear, simp to_z-of_z at w.loop-value-test.false))
+      | then-loop-value-test+else-find_point+else-value-high w ↦ IsSlicedTo-all c.args.rows.now c.args.bounds.now _ c.args.column (at c.args.bounds.now c.args.column) (to_z w128 c.loop-value.value-bits +ℤ pos 1) within (IsSlicedTo-more c.args.rows.now c.args.bounds.now c.loop-value.bounds c.args.column (at c.args.bounds.now c.args.column) (to_z w128 c.loop-value.value-bits) within sliced w.if-find_point.ensures.none) (omega (arith, ints))
     ]
 
 pub returns-clause-kept : goal.returns-clause-kept
@@ -91,6 +91,6 @@ returns-clause-kept t c =
     let high_fits : FitsSigned w128 (at c.args.bounds.now c.args.column).high = search rules in
     let sliced = simp to_z-of_z at c.loop-value.invariant in
     elim c.loop-value-test.branch [
-      else-loop-value-test w ↦ rw w.bounds-is (simp to_z-of_z sliced.restored)
-    | then-loop-value-test+else-find_point+else-value-high w ↦ rw (w.bounds-is, w.if-find_point.ensures.kept) (simp to_z-of_z (set-set c.loop-value.bounds c.args.column (fixed_at (to_z w128 c.loop-value.value-bits)) (at c.args.bounds.now c.args.column) ∙ sliced.restored))
+      | else-loop-value-test w ↦ rw w.bounds-is (simp to_z-of_z sliced.restored)
+      | then-loop-value-test+else-find_point+else-value-high w ↦ rw (w.bounds-is, w.if-find_point.ensures.kept) (simp to_z-of_z (set-set c.loop-value.bounds c.args.column (fixed_at (to_z w128 c.loop-value.value-bits)) (at c.args.bounds.now c.args.column) ∙ sliced.restored))
     ]
