@@ -1,7 +1,6 @@
 -- Terms whose columns rise, as they grow.
 use Rattle.std.proofs.Common.{ℕ, ◌<◌, ◌≤◌, List, [], ◌∷◌, ◌++◌, arith}
-use Rattle.std.specs.List.{All, AllPairs}
-use Rattle.std.proofs.lemmas.List.Elements.{All-push, All-weaker}
+use Rattle.std.proofs.lemmas.List.Elements.{All-push}
 use Rattle.std.proofs.lemmas.List.Quantifiers.{all_pairs_push}
 use Rattle.int_model.specs.declared.model.Item.{Item}
 use Rattle.int_model.specs.IntegerRows.{IsDistinctBelow}

@@ -1,6 +1,6 @@
 -- The integer rows of a model lie flat: one row's factors after another.
-use Rattle.std.proofs.Common.{◌≡◌, ℕ, suc, ◌+◌, ◌*◌, ◌^◌, ◌<◌, ◌≤◌, List, [], ◌∷◌, ◌++◌, length, map, take, drop, get_or, ℤ, pos, refl, sym, ap, subst, ◌∙◌, arith}
-use Rattle.std.specs.List.{All, flat_map, range_with_len}
+use Rattle.std.proofs.Common.{◌≡◌, ℕ, ◌*◌, ◌<◌, ◌≤◌, List, [], ◌∷◌, length, map, take, get_or, ℤ, refl, sym, ap, subst, ◌∙◌, arith}
+use Rattle.std.specs.List.{All, flat_map}
 use Rattle.std.proofs.lemmas.List.{take_at, drop_at, length-append, length-map, take_all}
 use Rattle.std.proofs.lemmas.List.FromFn.{length-map-range_with_len}
 use Rattle.std.proofs.lemmas.List.Elements.{All-map, All-get_or}
@@ -10,7 +10,7 @@ use Rattle.int_model.specs.declared.model.Item.{Item}
 use Rattle.int_model.specs.declared.model.Column.{Column}
 use Rattle.int_model.specs.declared.model.Row.{Row}
 use Rattle.int_model.specs.declared.model.Model.{Model}
-use Rattle.int_model.specs.WholeRows.{WholeRow, WholeRows, IsLight, IsWithinLimits}
+use Rattle.int_model.specs.WholeRows.{WholeRow, IsLight, IsWithinLimits}
 use Rattle.int_model.specs.FlatRows.{rows_of, whole_rows, IsFlat}
 use Rattle.int_model.specs.IntegerRows.{factor_of, factors_of, bounds_of, whole_row, integer_rows, IsDistinctBelow}
 

@@ -6,3 +6,4 @@ pub mod IntegerRowLemmas
 pub mod PointLemmas
 pub mod LightLemmas
 pub mod DistinctLemmas
+mod WorkedRows

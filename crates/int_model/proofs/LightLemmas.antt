@@ -1,24 +1,19 @@
 -- A model whose numbers are small has light integer rows.
-use Rattle.std.proofs.Common.{◌≡◌, ℕ, zero, suc, ◌+◌, ◌*◌, ◌^◌, ◌<◌, ◌≤◌, List, [], ◌∷◌, length, map, get_or, ℤ, pos, ◌+ℤ◌, nat_abs, refl, sym, ap, ◌∙◌, ⊎_elim, mul-le-mul, mul-le-mul_right, arith}
+use Rattle.std.proofs.Common.{◌≡◌, ℕ, zero, suc, ◌+◌, ◌*◌, ◌^◌, ◌<◌, ◌≤◌, List, [], ◌∷◌, length, map, get_or, ℤ, ◌+ℤ◌, nat_abs, ap, ◌∙◌, ⊎_elim, mul-le-mul, mul-le-mul_right, arith}
 use Rattle.std.specs.List.{All, AllPairs, range_with_len}
 use Rattle.std.proofs.lemmas.Bool.{cases_eq}
 use Rattle.std.proofs.lemmas.List.{length-map}
-use Rattle.std.proofs.lemmas.List.Elements.{All-map, All-head, All-tail, All-get_or, All-nil, All-cons}
+use Rattle.std.proofs.lemmas.List.Elements.{All-map, All-head, All-tail}
 use Rattle.exact_math.proofs.IntegerRing.{add_zero}
 use Rattle.int_model.specs.declared.bounds.Bounds.{Bounds}
 use Rattle.int_model.specs.declared.model.Item.{Item}
 use Rattle.int_model.specs.declared.model.Column.{Column}
 use Rattle.int_model.specs.declared.model.Row.{Row}
 use Rattle.int_model.specs.declared.model.Model.{Model}
-use Rattle.int_model.specs.WholeRows.{WholeRow, reach, span, weight, size_of_side, IsLight}
-use Rattle.int_model.specs.IntegerRows.{factor_of, factors_of, bounds_of, whole_row, integer_rows, IsDistinctBelow}
+use Rattle.int_model.specs.WholeRows.{reach, span, weight, IsLight}
+use Rattle.int_model.specs.SmallModels.{IsSmall}
+use Rattle.int_model.specs.IntegerRows.{factor_of, bounds_of, whole_row, integer_rows, IsDistinctBelow}
 use Rattle.int_model.proofs.FactorLemmas.{factor_of-head, factor_of-tail, factor_of-absent}
-
--- no number of the model is larger in size than the one given for its kind
-pub record IsSmall (factor bound side : ℕ) (model : Model) : Type 0 where
-  pub bounds : All (λ (column : Column). (nat_abs column.lo ≤ bound) × (nat_abs column.hi ≤ bound)) model.columns
-  pub factors : All (λ (row : Row). All (λ (item : Item). nat_abs item.factor ≤ factor) row.items) model.rows
-  pub sides : All (λ (row : Row). (size_of_side row.lo ≤ side) × (size_of_side row.hi ≤ side)) model.rows
 
 -- a column's factor is one of the terms' factors, or 0
 factor_of-small : (items : List Item) (j factor : ℕ) → AllPairs (λ (a b : Item). a.column < b.column) items → All (λ (item : Item). nat_abs item.factor ≤ factor) items → nat_abs (factor_of items j) ≤ factor

@@ -1,20 +1,18 @@
 -- The points of a model are the lists that meet its integer rows.
-use Rattle.std.proofs.Common.{◌≡◌, ◌↔◌, ℕ, zero, suc, ◌+◌, ◌<◌, ◌≤◌, eqb, cond, List, [], ◌∷◌, length, map, get_or, ℤ, pos, ◌+ℤ◌, ◌*ℤ◌, ◌≤ℤ◌, refl, sym, ap, subst, ◌∙◌, arith}
+use Rattle.std.proofs.Common.{◌≡◌, ◌↔◌, ℕ, zero, suc, ◌+◌, ◌<◌, eqb, cond, List, [], ◌∷◌, length, map, get_or, ℤ, pos, ◌+ℤ◌, ◌*ℤ◌, ◌≤ℤ◌, refl, sym, ap, subst, ◌∙◌, arith}
 use Rattle.std.specs.List.{All, AllZip, range_with_len}
-use Rattle.std.proofs.lemmas.List.{length-map}
 use Rattle.std.proofs.lemmas.List.Elements.{All-nil, All-cons, All-head, All-tail}
 use Rattle.std.proofs.lemmas.Bool.{cond-true, cond-false, eq-eqb, ne_eqb}
 use Rattle.std.proofs.lemmas.Slice.Zip.{AllZip-long}
 use Rattle.exact_math.specs.Ring.{integers}
 use Rattle.exact_math.proofs.IntegerRing.{linear, add_mul, zero_mul, add_zero, zero_add}
 use Rattle.exact_vectors.specs.Vectors.{dot}
-use Rattle.int_model.specs.declared.bounds.Bounds.{Bounds}
 use Rattle.int_model.specs.declared.model.Item.{Item}
 use Rattle.int_model.specs.declared.model.Column.{Column}
 use Rattle.int_model.specs.declared.model.Row.{Row}
 use Rattle.int_model.specs.declared.model.Model.{Model}
 use Rattle.int_model.specs.Points.{IsWithin, value_of, IsPoint}
-use Rattle.int_model.specs.WholeRows.{WholeRow, LiesIn, MeetsRow, Meets}
+use Rattle.int_model.specs.WholeRows.{LiesIn, MeetsRow, Meets}
 use Rattle.int_model.specs.IntegerRows.{factor_of, factors_of, bounds_of, whole_row, integer_rows, IsDistinctBelow}
 
 -- factors that are 0

@@ -2,3 +2,4 @@ pub mod Points
 pub mod WholeRows
 pub mod IntegerRows
 pub mod FlatRows
+pub mod SmallModels

@@ -1,10 +1,8 @@
 //! The integer rows of a model.
-ghost use Rattle.std.specs.Prelude.{◌≡◌, ◌^◌, ◌≤◌, ◌<◌, ◌↔◌, ◌++◌, ◌∷◌, [], ℤ, List, length, map, All, IfOk, IsTrue};
-ghost use Rattle.int_model.specs.Points.{IsPoint, IsWithin};
-ghost use Rattle.exact_math.specs.Ring.{integers};
-ghost use Rattle.exact_vectors.specs.Vectors.{dot};
-ghost use Rattle.int_model.specs.WholeRows.{LiesIn, Meets, MeetsRow, row_at, bounds_at, span, reach, weight, IsLight, IsWithinLimits};
-ghost use Rattle.int_model.specs.IntegerRows.{integer_rows, factors_of, IsDistinctBelow, bounds_of};
+ghost use Rattle.std.specs.Prelude.{◌≡◌, ◌^◌, ◌≤◌, ◌<◌, ◌↔◌, ℤ, List, length, map, All, IfOk, IsTrue};
+ghost use Rattle.int_model.specs.Points.{IsPoint};
+ghost use Rattle.int_model.specs.WholeRows.{LiesIn, Meets, MeetsRow, row_at, bounds_at, span, IsLight, IsWithinLimits};
+ghost use Rattle.int_model.specs.IntegerRows.{integer_rows, IsDistinctBelow, bounds_of};
 
 use crate::bounds::Bounds;
 use crate::dense::push_factors;

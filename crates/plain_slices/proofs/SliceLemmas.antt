@@ -1,5 +1,5 @@
 -- Slices of a box: what they keep of its size and of its points.
-use Rattle.std.proofs.Common.{◌≡◌, ◌↔◌, ◌⊎◌, inl, inr, ℕ, zero, suc, ◌+◌, ◌*◌, ◌^◌, ◌<◌, ◌≤◌, List, [], ◌∷◌, length, map, set, take, get_or, ℤ, pos, ◌+ℤ◌, ◌≤ℤ◌, ◌<ℤ◌, Option, nat_abs, refl, sym, ap, subst, ◌∙◌, ⊎_elim, mul-le-mul_left, arith}
+use Rattle.std.proofs.Common.{◌≡◌, ◌↔◌, ◌⊎◌, inl, inr, ℕ, zero, suc, ◌+◌, ◌<◌, ◌≤◌, List, [], ◌∷◌, length, set, take, get_or, ℤ, pos, ◌+ℤ◌, ◌≤ℤ◌, ◌<ℤ◌, Option, nat_abs, refl, sym, ap, subst, ◌∙◌, ⊎_elim, mul-le-mul_left, arith}
 use Rattle.std.specs.Prelude.{Some, None, IfSome}
 use Rattle.std.proofs.lemmas.List.{set-set, set-get_or, take_more_set}
 use Rattle.std.proofs.lemmas.List.Elements.{All-head, All-tail, All-push}
@@ -8,7 +8,6 @@ use Rattle.exact_math.proofs.IntegerRing.{linear}
 use Rattle.exact_math.proofs.IntegerOrder.{le_trans}
 use Rattle.exact_vectors.specs.Vectors.{dot}
 use Rattle.int_model.specs.declared.bounds.Bounds.{Bounds}
-use Rattle.int_model.specs.Points.{IsWithin}
 use Rattle.int_model.specs.WholeRows.{WholeRow, WholeRows, LiesIn, MeetsRow, Meets, reach, span}
 use Rattle.plain_slices.specs.declared.ends.End.TheVariants.{Least, Greatest}
 use Rattle.plain_slices.specs.Slices.{IsSlice, IsNarrowed, AllFixed, lows}

@@ -1,7 +1,7 @@
 //! Small models with a known point, or with none.
 ghost use Rattle.std.specs.Prelude.{◌≡◌, ◌^◌, ◌≤◌, ◌<◌, length, All, IfOk, unsigned_abs};
 ghost use Rattle.int_model.specs.IntegerRows.{IsDistinctBelow};
-ghost use Rattle.int_model.proofs.LightLemmas.{IsSmall};
+ghost use Rattle.int_model.specs.SmallModels.{IsSmall};
 
 use crate::plain_point;
 use int_model::{Column, Columns, IntRows, Item, Items, Model, Name, Row, Rows};

@@ -1,8 +1,6 @@
-use Rattle.std.proofs.Common.{rules, FitsSigned, get_or, pos, ◌∙◌, ap, sym, refl, arith}
+use Rattle.std.proofs.Common.{rules, FitsSigned, get_or, pos, ◌∙◌, refl, arith}
 use Rattle.std.specs.Int.{w128}
-use Rattle.std.specs.declared.vec.Vec.{Vec}
 use Rattle.std.proofs.lemmas.Int.{to_z-of_z}
-use Rattle.int_model.specs.declared.model.Item.{Item}
 use Rattle.int_model.proofs.FactorLemmas.{IsFilledTo-hit, IsFilledTo-miss, column-same}
 use Rattle.int_model.proofs.dense.push_factors.Goals as goal
 use Rattle.int_model.proofs.dense.push_factors.Goals.{then-at-items+then-items-at+in_ok-push, else-at-items+in_ok-push-2, else-at-items-via-then-at-items+else-items-at, else-at-items-via-else-at-items}

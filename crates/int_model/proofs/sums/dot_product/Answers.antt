@@ -1,4 +1,4 @@
-use Rattle.std.proofs.Common.{rules, ◌<◌, length, pos, ◌*ℤ◌, ◌+ℤ◌, get_or, FitsSigned, arith}
+use Rattle.std.proofs.Common.{rules, ◌<◌, length, pos, get_or, FitsSigned, arith}
 use Rattle.std.specs.Int.{w128}
 use Rattle.std.proofs.lemmas.Int.{to_z-of_z}
 use Rattle.int_model.proofs.SumLemmas.{IsSumUpTo-more, product_fits, sum_fits}

@@ -1,5 +1,5 @@
-use Rattle.std.proofs.Common.{◌≡◌, ◌∙◌, map, ap, sym, subst, length, arith}
-use Rattle.int_model.specs.IntegerRows.{bounds_of, IsDistinctBelow}
+use Rattle.std.proofs.Common.{◌≡◌, ◌∙◌, map, ap, length, arith}
+use Rattle.int_model.specs.IntegerRows.{bounds_of}
 use Rattle.int_model.proofs.IntegerRowLemmas.{whole_rows-is, IsFlat-of, HoldsRows-all, distinct-read}
 use Rattle.std.proofs.lemmas.List.{length-map}
 use Rattle.int_model.proofs.PointLemmas.{points_meet_integer_rows}

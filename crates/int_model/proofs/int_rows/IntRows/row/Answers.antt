@@ -1,4 +1,4 @@
-use Rattle.std.proofs.Common.{rules, ◌≡◌, ap, sym, subst, ◌∙◌, ◌+◌, ◌-◌, ◌*◌, ◌<◌, ◌≤◌, length, None, arith}
+use Rattle.std.proofs.Common.{rules, ◌≡◌, ap, sym, subst, ◌+◌, ◌-◌, ◌*◌, ◌<◌, ◌≤◌, length, None, arith}
 use Rattle.std.proofs.lemmas.Nat.{row_fits}
 use Rattle.int_model.specs.WholeRows.{WholeRow, IsWithinLimits}
 use Rattle.int_model.proofs.WholeRowLemmas.{span-row_at}
