@@ -1,2 +1,4 @@
 pub mod IntegerLaws
 pub mod Ring
+pub mod Determinants
+pub mod Ordered
