@@ -7,7 +7,6 @@ use Rattle.std.proofs.lemmas.List.Elements.{All-map, All-head, All-tail}
 use Rattle.exact_math.proofs.IntegerRing.{add_zero}
 use Rattle.int_model.specs.declared.bounds.Bounds.{Bounds}
 use Rattle.int_model.specs.declared.model.Item.{Item}
-use Rattle.int_model.specs.declared.model.Column.{Column}
 use Rattle.int_model.specs.declared.model.Row.{Row}
 use Rattle.int_model.specs.declared.model.Model.{Model}
 use Rattle.int_model.specs.WholeRows.{reach, span, weight, IsLight}

@@ -1,11 +1,11 @@
 -- Worked values: the row 3x + 5y = 8 over two columns from 0 to 10.
-use Rattle.std.proofs.Common.{◌≡◌, List, [], ◌∷◌, ℤ, pos, negsuc, refl}
+use Rattle.std.proofs.Common.{◌≡◌, List, [], ◌∷◌, pos, negsuc, refl}
 use Rattle.std.specs.Prelude.{Some}
 use Rattle.int_model.specs.declared.bounds.Bounds.{Bounds}
 use Rattle.int_model.specs.declared.model.Item.{Item}
 use Rattle.int_model.specs.declared.model.Row.{Row}
 use Rattle.int_model.specs.Points.{value_of}
-use Rattle.int_model.specs.WholeRows.{WholeRow, weight, reach}
+use Rattle.int_model.specs.WholeRows.{weight, reach}
 use Rattle.int_model.specs.IntegerRows.{factors_of, whole_row}
 
 terms : List Item
@@ -33,7 +33,7 @@ factors_of_three = refl
 
 -- 3 * 10 + 5 * 10 + 8 + 8
 weight_of_row : weight (digit ∷ digit ∷ []) (whole_row 2 row) ≡ 96
-unfolding row, terms, digit
+unfolding row terms digit
 weight_of_row = refl
 
 -- the reach of a column is the greater of its bounds in size, and at least 1
