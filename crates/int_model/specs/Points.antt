@@ -19,3 +19,12 @@ value_of (item ∷ items) x = item.factor *ℤ slice_index_or x item.column (pos
 pub record IsPoint (model : Model) (x : List ℤ) : Type 0 where
   pub in_bounds : AllZip (λ (column : Column) value. (column.lo ≤ℤ value) × (value ≤ℤ column.hi)) model.columns x
   pub in_sides : All (λ (row : Row). IsWithin row.lo row.hi (value_of row.items x)) model.rows
+
+-- the value of the objective: its constant, and what its terms come to
+abbrev pub value_at : Model → List ℤ → ℤ
+value_at model x = model.constant +ℤ value_of model.objective x
+
+-- a point, and no point has a smaller value
+pub record IsBest (model : Model) (x : List ℤ) : Type 0 where
+  pub point : IsPoint model x
+  pub least : (y : List ℤ) → IsPoint model y → value_at model x ≤ℤ value_at model y
