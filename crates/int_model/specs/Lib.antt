@@ -1,0 +1,5 @@
+pub mod Points
+pub mod WholeRows
+pub mod IntegerRows
+pub mod FlatRows
+pub mod SmallModels

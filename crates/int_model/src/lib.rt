@@ -1,6 +1,12 @@
 //! Integer programs with names, and their integer rows.
 #![tactic(auto)]
 
+mod bounds;
+mod dense;
+mod int_rows;
 mod model;
+mod sums;
 
+pub use bounds::Bounds;
+pub use int_rows::IntRows;
 pub use model::{Column, Columns, Item, Items, Model, Name, Row, Rows};

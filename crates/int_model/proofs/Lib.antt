@@ -1,0 +1,9 @@
+pub mod FlatLemmas
+pub mod SumLemmas
+pub mod WholeRowLemmas
+pub mod FactorLemmas
+pub mod IntegerRowLemmas
+pub mod PointLemmas
+pub mod LightLemmas
+pub mod DistinctLemmas
+mod WorkedRows

@@ -1,0 +1,9 @@
+//! The plain search for a point of integer rows: slices of one column after another.
+#![tactic(auto)]
+
+mod ends;
+mod search;
+#[cfg(test)]
+mod tests;
+
+pub use search::plain_point;
