@@ -4,6 +4,7 @@ pub mod DigitLaws
 pub mod NameLaws
 pub mod TableLaws
 pub mod RunLaws
+pub mod PlaceLaws
 pub mod Stops
 pub mod ReadLaws
 pub mod ModelLaws
