@@ -5,6 +5,8 @@ pub mod NameLaws
 pub mod TableLaws
 pub mod RunLaws
 pub mod PlaceLaws
+pub mod SizeLaws
+pub mod LimitLaws
 pub mod Stops
 pub mod ReadLaws
 pub mod ModelLaws
