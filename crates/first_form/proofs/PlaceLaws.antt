@@ -1,5 +1,5 @@
 -- The items of a row stand in rising columns, since the entries of each column stand together.
-use Rattle.std.proofs.Common.{◌≡◌, ℕ, zero, suc, ◌+◌, ◌<◌, ◌≤◌, length, get_or, Bool, true, false, true≢false, cond, ◌&&◌, not, List, [], ◌∷◌, ◌++◌, map, filter, pos, refl, sym, ap, subst, ◌∙◌, append_assoc, arith, length-append}
+use Rattle.std.proofs.Common.{◌≡◌, ℕ, zero, suc, ◌+◌, ◌<◌, ◌≤◌, length, Bool, true, false, true≢false, cond, ◌&&◌, not, List, [], ◌∷◌, ◌++◌, map, filter, pos, refl, sym, ap, subst, ◌∙◌, append_assoc, arith, length-append}
 use Rattle.std.specs.Prelude.{bytes_eq}
 use Rattle.std.specs.Ordering.{int_eq}
 use Rattle.std.specs.List.{All, AllPairs, position_or_len}

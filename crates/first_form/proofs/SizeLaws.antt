@@ -1,5 +1,5 @@
 -- The numbers of a text are at most a billion in size.
-use Rattle.std.proofs.Common.{◌≡◌, ℕ, suc, ◌+◌, ◌-◌, ◌*◌, ◌^◌, ◌<◌, ◌≤◌, Bool, true, false, cond, ◌&&◌, eqb, leb, List, [], ◌∷◌, length, Option, Some, None, ℤ, pos, neg_ℤ, nat_abs, refl, sym, ap, subst, ◌∙◌, arith, mul-le-mul_right}
+use Rattle.std.proofs.Common.{◌≡◌, ℕ, suc, ◌-◌, ◌*◌, ◌^◌, ◌<◌, ◌≤◌, Bool, true, false, cond, ◌&&◌, eqb, leb, List, [], ◌∷◌, length, Option, Some, None, ℤ, pos, neg_ℤ, nat_abs, refl, sym, ap, subst, ◌∙◌, arith, mul-le-mul_right}
 use Rattle.std.specs.Prelude.{option_map, find, codes, bytes_eq}
 use Rattle.std.specs.List.{All, list_all}
 use Rattle.std.proofs.Math.Nat.{pow-succ'}
