@@ -4,6 +4,9 @@ pub mod DigitLaws
 pub mod NameLaws
 pub mod TableLaws
 pub mod RunLaws
+pub mod PlaceLaws
+pub mod SizeLaws
+pub mod LimitLaws
 pub mod Stops
 pub mod ReadLaws
 pub mod ModelLaws

@@ -35,15 +35,15 @@ bytes_eq_comm x y differ =
 or-false : (a b : Bool) → a ≡ false → b ≡ false → (a || b) ≡ false
 or-false a b p q = ap (λ c. c || b) p ∙ q
 
-or_first : (a b : Bool) → (a || b) ≡ false → a ≡ false
+pub or_first : (a b : Bool) → (a || b) ≡ false → a ≡ false
 or_first true b e = e
 or_first false b e = refl
 
-or_second : (a b : Bool) → (a || b) ≡ false → b ≡ false
+pub or_second : (a b : Bool) → (a || b) ≡ false → b ≡ false
 or_second true b e = absurd (true≢false e)
 or_second false b e = e
 
-is_not_true : (b : Bool) → not b ≡ true → b ≡ false
+pub is_not_true : (b : Bool) → not b ≡ true → b ≡ false
 is_not_true true e = absurd (true≢false (sym e))
 is_not_true false e = refl
 
@@ -54,7 +54,7 @@ among_neither (x ∷ xs) name other none differ =
     or-false (bytes_eq name x) (is_among (xs ++ other ∷ []) name) (or_first (bytes_eq name x) (is_among xs name) none)
     (among_neither xs name other (or_second (bytes_eq name x) (is_among xs name) none) differ)
 
-among_here : (names rest : List (List ℕ)) (name : List ℕ) → is_among (names ++ name ∷ rest) name ≡ true
+pub among_here : (names rest : List (List ℕ)) (name : List ℕ) → is_among (names ++ name ∷ rest) name ≡ true
 among_here [] rest name = ap (λ b. b || is_among rest name) (bytes_eq-same name)
 among_here (x ∷ xs) rest name = elim (bytes_eq name x) as (λ t. (t || is_among (xs ++ name ∷ rest) name) ≡ true) [ true ↦ refl | false ↦ among_here xs rest name ]
 

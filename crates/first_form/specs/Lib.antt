@@ -6,4 +6,5 @@ pub mod Numbers
 pub mod Names
 pub mod Tables
 pub mod Stated
+pub mod Limits
 pub mod Views

@@ -1,5 +1,6 @@
 //! The model that a text of the first form states.
 ghost use Rattle.std.specs.Prelude.{◌≡◌, ◌≤◌, [], ◌∷◌, ◌++◌, map, length, IfOk, OnOk};
+ghost use Rattle.first_form.specs.Limits.{MeetsLimits};
 ghost use Rattle.first_form.specs.Option.{each};
 ghost use Rattle.first_form.specs.Stated.{number_of, column_at, items_at, row_at, others_fit as others_fit_of, stated_by, stated};
 ghost use Rattle.first_form.specs.Stop.{Gives};
@@ -143,9 +144,11 @@ fn model_of(alloc: Global, tables: &Tables) -> Result<Model, ReadStop>
 }
 
 /// The model that a text of the first form states. Unbuilt exactly where the text is not in the first form.
+/// The limits are those that `IntRows::of` of `int_model` requires.
 #[tactic(auto, unfolding(crate::specs::Stated::stated))]
 pub fn read(alloc: Global, text: &[u8]) -> Result<Model, ReadStop>
-    ensures { Gives (λ model. model) result (stated text.now) }
+    ensures exact { Gives (λ model. model) result (stated text.now) }
+    ensures limits { IfOk result MeetsLimits }
 {
     if !is_plain(text) {
         return Err(ReadStop::Unbuilt);
