@@ -1,2 +1,4 @@
 pub mod PointLaws
 pub mod TakeLaws
+pub mod AnswerLaws
+pub mod SolveLaws

@@ -1,14 +1,15 @@
 //! The run of the program.
-ghost use Rattle.std.specs.Prelude.{◌≡◌, ◌≤◌, ◌∷◌, [], map, IfOk, MatchResult, string_bytes};
-ghost use Rattle.desk_io.specs.Desk.{Same};
+ghost use Rattle.std.specs.Prelude.{◌≡◌, ◌≤◌, ℕ, ◌∷◌, [], List, Some, drop, map, option_map, IfOk, MatchResult, string_bytes};
+ghost use Rattle.desk_io.specs.Desk.{Same, SameButAt};
+ghost use Rattle.solve_cli.specs.Words.{Solve, command_of};
 ghost use Rattle.solve_cli.specs.Report.{text_of, line_of};
-ghost use Rattle.solve_cli.specs.Answer.{Answer, TakesInput, IsComplete};
+ghost use Rattle.solve_cli.specs.Answer.{Answer, IsJudged, TakesInput, IsComplete};
 ghost use Rattle.solve_cli.specs.Solving.{SolvesTo, HasReason, IsSaid};
 
 use crate::report::{optimal_report, short_report};
 use crate::status::{FaultKind, Status, TextFault};
 use crate::take::{TakeStop, take_text};
-use crate::words::{Command, WordsStop, read_words};
+use crate::words::{Command, FileName, WordsStop, read_words};
 use desk_io::{Desk, DeskStop};
 use first_form::{ReadStop, read};
 use int_model::IntRows;
@@ -59,6 +60,24 @@ fn solve(alloc: Global, text: &[u8]) -> Result<Reply, NoMemory>
     })
 }
 
+// Takes the text of the model from the desk, and solves the model that it states.
+fn solve_file<D: Desk>(alloc: Global, model: &FileName, desk: &mut D) -> Result<Reply, NoMemory>
+    ensures reason { (words : List (List ℕ)) (command : Solve) → command_of words ≡ Some command → command.model ≡ model.now → IfOk result (HasReason
+        (record { words = words; left = D.left desk.old; faults = D.faults desk.old })
+        (record { count = D.faults desk.new; last = D.fault_at desk.new })) }
+    ensures others { SameButAt model.now (D.left desk.old) (D.left desk.new) }
+    ensures taken { IfOk result (λ reply. IsJudged reply.status → D.left desk.new model.now ≡ option_map (drop 65537) (D.left desk.old model.now)) }
+    ensures outputs { Same (D.written desk.old) (D.written desk.new) }
+    ensures said { D.said desk.new ≡ D.said desk.old }
+    ensures later { D.faults desk.old ≤ D.faults desk.new }
+{
+    match take_text(alloc, desk, model.text()) {
+        Ok(text) => solve(alloc, &text),
+        Err(TakeStop::Failed) => short_reply(alloc, Status::ReadFault),
+        Err(TakeStop::NoMemory) => Err(NoMemory),
+    }
+}
+
 // What is to be said to the words.
 fn reply_to<D: Desk>(alloc: Global, words: &Vec<String>, desk: &mut D) -> Result<Reply, NoMemory>
     ensures reason { IfOk result (HasReason
@@ -71,15 +90,13 @@ fn reply_to<D: Desk>(alloc: Global, words: &Vec<String>, desk: &mut D) -> Result
     ensures said { D.said desk.new ≡ D.said desk.old }
     ensures later { D.faults desk.old ≤ D.faults desk.new }
 {
-    let model = match read_words(alloc, words) {
-        Ok(Command::Solve { model, .. }) => model,
+    let command = match read_words(alloc, words) {
+        Ok(command) => command,
         Err(WordsStop::Words) => return short_reply(alloc, Status::Words),
         Err(WordsStop::NoMemory) => return Err(NoMemory),
     };
-    match take_text(alloc, desk, model.text()) {
-        Ok(text) => solve(alloc, &text),
-        Err(TakeStop::Failed) => short_reply(alloc, Status::ReadFault),
-        Err(TakeStop::NoMemory) => Err(NoMemory),
+    match command {
+        Command::Solve { model, .. } => solve_file(alloc, &model, desk),
     }
 }
 

@@ -48,6 +48,7 @@ pub(crate) fn take_text<D: Desk>(
     ensures others { SameButAt name.now (D.left desk.old) (D.left desk.new) }
     ensures outputs { Same (D.written desk.old) (D.written desk.new) }
     ensures said { D.said desk.new ≡ D.said desk.old }
+    ensures later { D.faults desk.old ≤ D.faults desk.new }
     ensures failed { IsReadFault name.now (D.faults desk.old) (D.faults desk.new) (D.fault_at desk.new) result }
     ensures kept { IsUnmoved (D.faults desk.old) (D.faults desk.new) (D.fault_at desk.old) (D.fault_at desk.new) result }
 {

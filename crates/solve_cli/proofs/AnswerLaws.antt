@@ -1,0 +1,98 @@
+-- From what the parts of a run answer to what the run answers.
+use Rattle.std.proofs.Common.{◌≡◌, ◌⊎◌, ⊎_elim, inl, inr, ◌≤◌, ℕ, ℤ, List, [], ◌∷◌, ◌++◌, length, take, drop, Bool, true, false, cond, Option, Some, None, refl, sym, ap, subst, ◌∙◌, arith}
+use Rattle.std.specs.Prelude.{option_map, IfSome}
+use Rattle.std.proofs.lemmas.Option.{same_Some, none-some, IfSome_then}
+use Rattle.desk_io.specs.Desk.{Fault, fault, appended, AppendsSome, Same, SameButAt, Rose}
+use Rattle.desk_io.specs.declared.desk.Call.TheVariants.{Take, Say}
+use Rattle.desk_io.proofs.Appended.{appends_all}
+use Rattle.desk_io.proofs.Faults.{rose_after}
+use Rattle.int_model.specs.declared.model.Model.{Model}
+use Rattle.int_model.specs.Points.{IsPoint, IsBest, value_at}
+use Rattle.first_form.specs.Stated.{stated}
+use Rattle.solve_cli.specs.declared.status.Status.{Status}
+use Rattle.solve_cli.specs.declared.status.Status.TheVariants.{Optimal, Infeasible, Words, Text, ReadFault, WriteFault, NoMemory}
+use Rattle.solve_cli.specs.Words.{Solve, command_of}
+use Rattle.solve_cli.specs.Report.{text_of}
+use Rattle.solve_cli.specs.Answer.{Given, Faults, States, Reason, SaysAll, SaysSome, Answer, IsJudged, TakesInput, Decides, IsComplete}
+use Rattle.solve_cli.specs.Solving.{Solves, IsSaid}
+
+-- ---- the answer
+
+-- a status whose lines were said
+all_said : (given : Given) (faults : Faults) (status : Status) (lines : List (List ℕ)) (before after : Option (List ℕ)) → Reason given faults status lines
+    → after ≡ option_map (appended (text_of lines)) before → Answer given faults before after status
+all_said given faults Optimal lines before after reason said = record { lines = lines; reason = reason; said = said }
+all_said given faults Infeasible lines before after reason said = record { lines = lines; reason = reason; said = said }
+all_said given faults Words lines before after reason said = record { lines = lines; reason = reason; said = said }
+all_said given faults (Text fault) lines before after reason said = record { lines = lines; reason = reason; said = said }
+all_said given faults ReadFault lines before after reason said = record { lines = lines; reason = reason; said = said }
+all_said given faults WriteFault lines before after reason said = absurd reason
+all_said given faults NoMemory lines before after reason said =
+    record { status = NoMemory; lines = lines; faults = faults; reason = reason; said = appends_all (text_of lines) before after said }
+
+module _ (given : Given) (faults now : Faults) (status result : Status) (lines : List (List ℕ)) (before after : Option (List ℕ))
+    (later : given.faults ≤ faults.count) (reason : Reason given faults status lines) (said : IsSaid (text_of lines) status faults now before after result) where
+  some_said : AppendsSome (text_of lines) before after → SaysSome given before after
+  some_said part = record { status = status; lines = lines; faults = faults; reason = reason; said = part }
+
+  pub answers : Answer given now before after result
+  answers =
+      ⊎_elim
+      (λ whole.
+      subst (λ f. Answer given f before after result) (sym whole.2)
+      (subst (Answer given faults before after) (sym whole.0) (all_said given faults status lines before after reason whole.1)))
+      (⊎_elim
+      (λ failed. subst (Answer given now before after) (sym failed.0) (some_said failed.1, rose_after given.faults faults.count now.count later failed.2, failed.3))
+      (λ full. subst (Answer given now before after) (sym full.0) (some_said full.1)))
+      said.outcome
+
+-- the same of a report that is the text of those lines, over a desk that said nothing before
+pub run_answers : (given : Given) (faults now : Faults) (status result : Status) (lines : List (List ℕ)) (report : List ℕ) (start before after : Option (List ℕ)) → given.faults ≤ faults.count
+    → report ≡ text_of lines → before ≡ start → Reason given faults status lines → IsSaid report status faults now before after result → Answer given now start after result
+run_answers given faults now status result lines report start before after later is_text same reason said =
+    subst (λ b. Answer given now b after result) same
+    (answers given faults now status result lines before after later reason (subst (λ text. IsSaid text status faults now before after result) is_text said))
+
+-- ---- the inputs
+
+judged_none : {P : Type 0} (status : Status) → (status ≡ WriteFault) ⊎ (status ≡ NoMemory) → IsJudged status → P
+judged_none status other judged = ⊎_elim (λ e. absurd (subst IsJudged e judged)) (λ e. absurd (subst IsJudged e judged)) other
+
+pub takes_said : (given : Given) (status result : Status) (report : List ℕ) (faults now : Faults) (before after : Option (List ℕ)) (left left_now : List ℕ → Option (List ℕ))
+    → TakesInput given left status → IsSaid report status faults now before after result → Same left left_now → TakesInput given left_now result
+takes_said given status result report faults now before after left left_now takes said same = record {
+  no_command = λ none name. same name ∙ takes.no_command none name;
+  others = λ command spelled name other. same name ∙ takes.others command spelled name other;
+  model = λ command spelled judged. same command.model ∙ ⊎_elim
+      (λ whole. takes.model command spelled (subst IsJudged whole.0 judged))
+      (⊎_elim (λ failed. judged_none result (inl failed.0) judged) (λ full. judged_none result (inr full.0) judged))
+      said.outcome;
+}
+
+-- ---- completeness
+
+same_command : (words : List (List ℕ)) (one other : Solve) → command_of words ≡ Some one → command_of words ≡ Some other → one ≡ other
+same_command words one other p q = same_Some one other (sym p ∙ q)
+
+-- what is told of the command's model
+stated_is : (given : Given) (one other : Solve) (text : List ℕ) (found : Option Model) → command_of given.words ≡ Some one → command_of given.words ≡ Some other
+    → given.left other.model ≡ Some text → States given one found → stated text ≡ found
+stated_is given one other text found p q told states =
+    let at : given.left one.model ≡ Some text = ap (λ (c : Solve). given.left c.model) (same_command given.words one other p q) ∙ told in
+    subst (λ t. IfSome t (λ text. stated text ≡ found)) at states
+
+pub completes : (given : Given) (now : Faults) (before after : Option (List ℕ)) (status : Status) → Answer given now before after status → IsComplete given now status
+completes given now before after Optimal answer command text model spelled told stated_text calm =
+    let model_is : answer.reason.model ≡ model =
+    same_Some answer.reason.model model (sym (stated_is given answer.reason.command command text (Some answer.reason.model) answer.reason.spelled spelled told answer.reason.states) ∙ stated_text) in
+    subst (λ m. (x : List ℤ) × IsPoint m x) model_is (answer.reason.point, answer.reason.best.point)
+completes given now before after Infeasible answer command text model spelled told stated_text calm =
+    let model_is : answer.reason.model ≡ model =
+    same_Some answer.reason.model model (sym (stated_is given answer.reason.command command text (Some answer.reason.model) answer.reason.spelled spelled told answer.reason.states) ∙ stated_text) in
+    subst (λ m. (x : List ℤ) → IsPoint m x → ⊥) model_is answer.reason.none
+completes given now before after Words answer command text model spelled told stated_text calm = none-some command (sym answer.reason.0 ∙ spelled)
+completes given now before after (Text fault) answer command text model spelled told stated_text calm =
+    none-some model (sym (stated_is given answer.reason.command command text None answer.reason.spelled spelled told answer.reason.states) ∙ stated_text)
+completes given now before after ReadFault answer command text model spelled told stated_text calm = calm answer.reason.rose
+completes given now before after WriteFault answer command text model spelled told stated_text calm = calm answer.1
+completes given now before after NoMemory answer command text model spelled told stated_text calm = tt

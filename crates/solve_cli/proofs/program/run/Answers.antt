@@ -1,0 +1,32 @@
+use Rattle.std.proofs.Common.{◌≡◌, [], ◌∷◌, map, refl, sym, ◌∙◌}
+use Rattle.std.specs.Prelude.{string_bytes}
+use Rattle.solve_cli.specs.declared.status.Status.TheVariants.{NoMemory}
+use Rattle.solve_cli.specs.Answer.{Given, Faults}
+use Rattle.solve_cli.specs.Report.{line_of}
+use Rattle.solve_cli.proofs.AnswerLaws.{run_answers, takes_said, completes}
+use Rattle.solve_cli.proofs.program.run.Goals as goal
+
+pub returns-in-Ok-clause-answer : goal.returns-in-Ok-clause-answer
+returns-in-Ok-clause-answer g c =
+    let replied = c.in-Ok.ensures in
+    run_answers _ _ _ c.in-Ok.reply.status c.say.result replied.reason.0 _ _ _ _ replied.later (c.deref.ensures.value ∙ replied.reason.1) replied.said replied.reason.2
+    c.say.ensures.said
+
+pub returns-in-Ok-clause-complete : goal.returns-in-Ok-clause-complete
+returns-in-Ok-clause-complete g c = completes _ _ _ _ c.say.result (returns-in-Ok-clause-answer g c)
+
+pub returns-in-Ok-clause-inputs : goal.returns-in-Ok-clause-inputs
+returns-in-Ok-clause-inputs g c =
+    takes_said _ c.in-Ok.reply.status c.say.result _ _ _ _ _ _ _ c.in-Ok.ensures.inputs c.say.ensures.said c.say.ensures.inputs
+
+pub returns-in-Err-clause-answer : goal.returns-in-Err-clause-answer
+returns-in-Err-clause-answer g c =
+    let replied = c.in-Err.ensures in
+    run_answers _ _ _ NoMemory c.say-in-Err.result (line_of NoMemory ∷ []) _ _ _ _ replied.later refl replied.said refl c.say-in-Err.ensures.said
+
+pub returns-in-Err-clause-complete : goal.returns-in-Err-clause-complete
+returns-in-Err-clause-complete g c = completes _ _ _ _ c.say-in-Err.result (returns-in-Err-clause-answer g c)
+
+pub returns-in-Err-clause-inputs : goal.returns-in-Err-clause-inputs
+returns-in-Err-clause-inputs g c =
+    takes_said _ NoMemory c.say-in-Err.result _ _ _ _ _ _ _ c.in-Err.ensures.inputs c.say-in-Err.ensures.said c.say-in-Err.ensures.inputs
