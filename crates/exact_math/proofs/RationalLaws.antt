@@ -3,7 +3,7 @@ use Rattle.std.proofs.Common.{◌≡◌, ◌≢◌, ℕ, zero, suc, ◌*◌, ◌
 use Rattle.exact_math.specs.Gcd.{gcd}
 use Rattle.exact_math.specs.GcdLaws.{same_lowest, gcd-mul-div_left, gcd-mul-div_right, nat_abs-neg}
 use Rattle.exact_math.specs.Rational.{ℚ, whole, frac, ◌+ℚ◌, neg_ℚ, ◌*ℚ◌}
-pub use Rattle.exact_math.specs.RationalCode.{same_terms, den_pos, terms_lowest, frac-self}
+pub use Rattle.exact_math.specs.RationalCode.{same_terms, den_pos, terms_lowest, frac-lowest, frac-self}
 use Rattle.exact_math.proofs.IntegerRing.{expand, linear, neg_mul}
 use Rattle.exact_math.proofs.IntegerOrder.{mul_cancel}
 
@@ -82,12 +82,6 @@ cross_from_same a c b d hb hd e =
 -- a fraction that is made equals a number with the same cross product
 pub frac_is : (n : ℤ) (d : ℕ) (q : ℚ) → 0 < d → n *ℤ pos q.den ≡ q.num *ℤ pos d → frac n d ≡ q
 frac_is n d q h e = same_frac n q.num d q.den h (den_pos q) e ∙ frac-self q
-
--- terms that are lowest stay
-pub frac-lowest : (n : ℤ) (d : ℕ) → 0 < d → gcd (nat_abs n) d ≡ 1 → ((frac n d).num ≡ n) × ((frac n d).den ≡ d)
-frac-lowest n d h e =
-    let q = frac n d in
-    lowest_from_cross q.num n q.den d (terms_lowest q) e (den_pos q) h (frac-cross n d h)
 
 pub whole-frac : (z : ℤ) → whole z ≡ frac z 1
 unfolding whole

@@ -2,7 +2,7 @@
 use Rattle.std.proofs.Common.{◌≡◌, ◌==◌, ℕ, zero, suc, ℤ, pos, negsuc, neg_ℤ, nat_abs, int_div, T, nat_lt, lt→ltb, ◌*◌, ◌/◌, ◌%◌, ◌≤◌, ◌<◌, refl, sym, ap, ◌∙◌, subst, arith, mul_comm, one-mul, mul-zero, zero-mul, mul-le-mul_left}
 use Rattle.std.specs.Int.{IsGcd, ◌∣◌}
 use Rattle.std.proofs.Math.Nat.{dvd-mul_left, dvd-mul_right, eq-one_of_dvd-one, dvd_of_mul-dvd-mul_left, mul-dvd-mul_left, pos_of_dvd_of_pos, mul-div_cancel'}
-use Rattle.std.proofs.lemmas.Nat.Gcd.{IsGcd-from_zero, IsGcd-from_mod, IsGcd-swap, same_from_IsGcd, dvd_trans, dvd_antisymm}
+use Rattle.std.proofs.lemmas.Nat.Gcd.{IsGcd-from_zero, IsGcd-from_mod, IsGcd-swap, same_from_IsGcd, dvd_trans, dvd_antisymm, le_of_dvd}
 use Rattle.exact_math.specs.Gcd.{gcd, gcd_within}
 
 IsGcd-gcd_within : (steps a b : ℕ) → b ≤ steps → IsGcd a b (gcd_within steps a b)
@@ -55,12 +55,23 @@ gcd_pos_right a b h = pos_of_dvd_of_pos (gcd_dvd_right a b) h
 pub gcd_pos_left : (a b : ℕ) → 0 < a → 0 < gcd a b
 gcd_pos_left a b h = pos_of_dvd_of_pos (gcd_dvd_left a b) h
 
+-- it is below what both numbers are below
+pub gcd_below : (a b limit : ℕ) → a < limit → b < limit → gcd a b < limit
+gcd_below a zero limit h k = subst (λ n. n < limit) (sym (gcd-zero a)) h
+gcd_below a (suc b) limit h k =
+    let at_most : gcd a (suc b) ≤ suc b = le_of_dvd (omega arith) (gcd_dvd_right a (suc b)) in
+    omega arith
+
 -- both divided by the greatest common divisor, and multiplied again
 pub gcd-mul-div_left : (a b : ℕ) → gcd a b * (a / gcd a b) ≡ a
 gcd-mul-div_left a b = mul-div_cancel' _ (gcd_dvd_left a b)
 
 pub gcd-mul-div_right : (a b : ℕ) → gcd a b * (b / gcd a b) ≡ b
 gcd-mul-div_right a b = mul-div_cancel' _ (gcd_dvd_right a b)
+
+-- such a quotient divides the number
+pub quotient_dvd : (g n : ℕ) → g ∣ n → n / g ∣ n
+quotient_dvd g n h = subst (λ m. n / g ∣ m) (mul-div_cancel' g h) (dvd-mul_left (n / g) g)
 
 scaled : (k a b : ℕ) → 0 < k → IsGcd (k * a) (k * b) (k * gcd a b)
 scaled k a b some = (

@@ -1,5 +1,5 @@
 -- The code of the rational numbers, by which a proof tells values apart: numerator and denominator. A number is made again from its terms.
-use Rattle.std.proofs.Common.{◌≡◌, ◌==◌, ℕ, zero, suc, ◌/◌, ◌<◌, T, nat_lt, ltb→lt, eqb→eq, ℤ, pos, negsuc, neg_ℤ, nat_abs, int_div, refl, sym, ap, ◌∙◌, subst₂, arith, div-one}
+use Rattle.std.proofs.Common.{◌≡◌, ◌==◌, ℕ, zero, suc, ◌/◌, ◌<◌, T, nat_lt, ltb→lt, eqb→eq, ℤ, pos, negsuc, neg_ℤ, nat_abs, int_div, ap, ◌∙◌, subst₂, arith, div-one}
 use Rattle.std.proofs.Math.Dec.{T_prop}
 use Rattle.std.specs.Coded.{Coded, code_by, coded×, coded_ℤ, coded_ℕ}
 use Rattle.exact_math.specs.Gcd.{gcd}
@@ -23,16 +23,18 @@ by_one : (n : ℤ) → int_div n (pos 1) ≡ n
 by_one (pos a) = ap pos (div-one a)
 by_one (negsuc a) = ap (λ k. neg_ℤ (pos k)) (div-one (suc a))
 
-remade : (q : ℚ) (d : ℕ) → q.den ≡ d → 0 < d → frac q.num d ≡ q
+-- terms that are lowest stay
+pub frac-lowest : (n : ℤ) (d : ℕ) → 0 < d → gcd (nat_abs n) d ≡ 1 → ((frac n d).num ≡ n) × ((frac n d).den ≡ d)
 unfolding frac
-remade q zero e some = absurd (omega arith)
-remade q (suc d) e some =
-    let one : gcd (nat_abs q.num) (suc d) ≡ 1 = ap (gcd (nat_abs q.num)) (sym e) ∙ terms_lowest q in
-    same_terms (frac q.num (suc d)) q (ap (λ g. int_div q.num (pos g)) one ∙ by_one q.num) (ap (λ g. suc d / g) one ∙ div-one (suc d) ∙ sym e)
+frac-lowest n zero some one = absurd (omega arith)
+frac-lowest n (suc d) some one =
+    (ap (λ g. int_div n (pos g)) one ∙ by_one n, ap (λ g. suc d / g) one ∙ div-one (suc d))
 
 -- a number is made from its terms
 pub frac-self : (q : ℚ) → frac q.num q.den ≡ q
-frac-self q = remade q q.den refl (den_pos q)
+frac-self q =
+    let t = frac-lowest q.num q.den (den_pos q) (terms_lowest q) in
+    same_terms (frac q.num q.den) q t.0 t.1
 
 abbrev pub rational_code : Coded ℚ
 rational_code =
