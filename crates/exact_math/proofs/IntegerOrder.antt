@@ -1,6 +1,8 @@
 -- The order of the whole numbers under products. `omega linear` finds the linear combination once the products are given, as the two worked uses at the end show.
 use Rattle.std.proofs.Common.{◌≡◌, ℕ, suc, zero, ◌+◌, ◌*◌, ◌≤◌, ◌⊎◌, ℤ, pos, negsuc, ◌+ℤ◌, ◌-ℤ◌, ◌*ℤ◌, ◌≤ℤ◌, ◌<ℤ◌, neg_ℤ, nat_abs, refl, arith, ⊎_elim, mul-le-mul}
 use Rattle.std.proofs.lemmas.Int.{unsigned_abs-mul}
+use Rattle.exact_math.specs.Ordered.{IsOrdered}
+use Rattle.exact_math.specs.Ring.{integers}
 use Rattle.exact_math.proofs.IntegerRing.{expand, linear, mul_comm, mul_neg, neg_mul}
 
 -- a number is at most itself
@@ -136,6 +138,10 @@ abs_bounds a = omega linear
 pub abs_le : (a : ℤ) (n : ℕ) → a ≤ℤ pos n → neg_ℤ (pos n) ≤ℤ a → nat_abs a ≤ n
 abs_le a n h k = omega linear
 
+-- the whole numbers are ordered
+pub integers_ordered : IsOrdered integers ◌≤ℤ◌
+integers_ordered = record { le_refl = le_refl; le_trans = le_trans; add_le = add_le; mul_nonneg = mul_nonneg }
+
 -- worked use: weak duality for two rows and two columns
 pub weak_duality_of_two : (a b c d p q r s x y u v : ℤ) → pos 0 ≤ℤ x → pos 0 ≤ℤ y → pos 0 ≤ℤ u → pos 0 ≤ℤ v → (a *ℤ x +ℤ b *ℤ y) ≤ℤ p → (c *ℤ x +ℤ d *ℤ y) ≤ℤ q → r ≤ℤ (u *ℤ a +ℤ v *ℤ c) → s ≤ℤ (u *ℤ b +ℤ v *ℤ d) → (r *ℤ x +ℤ s *ℤ y) ≤ℤ (u *ℤ p +ℤ v *ℤ q)
 weak_duality_of_two a b c d p q r s x y u v hx hy hu hv row_p row_q column_r column_s =
@@ -144,3 +150,17 @@ weak_duality_of_two a b c d p q r s x y u v hx hy hu hv row_p row_q column_r col
 -- worked use: four times a product is at most the square of the sum (arithmetic and geometric mean)
 pub geometric_mean_le : (a b : ℤ) → (pos 4 *ℤ (a *ℤ b)) ≤ℤ ((a +ℤ b) *ℤ (a +ℤ b))
 geometric_mean_le a b = simp expand (omega (linear, simp expand at (square_nonneg (a -ℤ b))))
+
+-- worked use: the inequality of Cauchy and Schwarz for three products
+pub cauchy_schwarz_of_three : (a b c x y z : ℤ) → ((a *ℤ x +ℤ b *ℤ y +ℤ c *ℤ z) *ℤ (a *ℤ x +ℤ b *ℤ y +ℤ c *ℤ z)) ≤ℤ ((a *ℤ a +ℤ b *ℤ b +ℤ c *ℤ c) *ℤ (x *ℤ x +ℤ y *ℤ y +ℤ z *ℤ z))
+cauchy_schwarz_of_three a b c x y z =
+    simp expand (omega (linear, simp expand at (square_nonneg (a *ℤ y -ℤ b *ℤ x)), simp expand at (square_nonneg (a *ℤ z -ℤ c *ℤ x)), simp expand at (square_nonneg (b *ℤ z -ℤ c *ℤ y))))
+
+-- worked use: fractions a / b ≤ c / d ≤ e / f, compared by their cross products
+pub cross_products_trans : (a b c d e f : ℤ) → pos 0 <ℤ b → pos 0 <ℤ d → pos 0 <ℤ f → (a *ℤ d) ≤ℤ (c *ℤ b) → (c *ℤ f) ≤ℤ (e *ℤ d) → (a *ℤ f) ≤ℤ (e *ℤ b)
+cross_products_trans a b c d e f hb hd hf h k =
+    le_of_mul_le d (a *ℤ f) (e *ℤ b) hd (simp expand (omega (linear, simp expand at (mul_le f _ _ (omega linear) h), simp expand at (mul_le b _ _ (omega linear) k))))
+
+-- worked use: `q` is a / d rounded down, so it is the greatest number with q d ≤ a
+pub rounded_down_is_greatest : (a d q s : ℤ) → pos 0 <ℤ d → a <ℤ (q *ℤ d +ℤ d) → (s *ℤ d) ≤ℤ a → s ≤ℤ q
+rounded_down_is_greatest a d q s hd h k = ⊎_elim (λ g. g) (λ g. absurd (omega (linear, simp expand at (mul_le d (q +ℤ pos 1) s (omega linear) (omega linear)), mul_comm q d, mul_comm s d))) (le_or_lt s q)

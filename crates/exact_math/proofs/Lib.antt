@@ -6,3 +6,8 @@ pub mod QuotientLaws
 pub mod RationalOrder
 pub mod RationalFloor
 pub mod RationalExamples
+pub mod RingLaws
+pub mod RingExpressions
+pub mod RingSolver
+pub mod RingIdentities
+pub mod OrderedRing

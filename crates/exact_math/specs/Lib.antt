@@ -5,3 +5,5 @@ pub mod GcdLaws
 pub mod Quotient
 pub mod Rational
 pub mod RationalCode
+pub mod Determinants
+pub mod Ordered

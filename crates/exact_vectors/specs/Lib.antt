@@ -1,1 +1,4 @@
 pub mod Vectors
+pub mod Matrices
+pub mod Inequalities
+pub mod Range
