@@ -1,8 +1,8 @@
 -- The laws of the greatest common divisor, and of numbers with no common divisor but 1.
-use Rattle.std.proofs.Common.{◌≡◌, ◌==◌, ℕ, zero, suc, ℤ, pos, negsuc, neg_ℤ, nat_abs, int_div, T, nat_lt, lt→ltb, ◌*◌, ◌/◌, ◌%◌, ◌≤◌, ◌<◌, refl, sym, ap, ◌∙◌, subst, arith, mul_comm, one-mul, mul-zero, zero-mul, mul-le-mul_left}
+use Rattle.std.proofs.Common.{◌≡◌, ◌==◌, ℕ, zero, suc, ℤ, pos, negsuc, neg_ℤ, nat_abs, int_div, T, nat_lt, lt→ltb, ◌-◌, ◌*◌, ◌/◌, ◌%◌, ◌≤◌, ◌<◌, refl, sym, ap, ◌∙◌, subst, arith, mul_comm, one-mul, mul-zero, zero-mul, mul-le-mul_left}
 use Rattle.std.specs.Int.{IsGcd, ◌∣◌}
 use Rattle.std.proofs.Math.Nat.{dvd-mul_left, dvd-mul_right, eq-one_of_dvd-one, dvd_of_mul-dvd-mul_left, mul-dvd-mul_left, pos_of_dvd_of_pos, mul-div_cancel'}
-use Rattle.std.proofs.lemmas.Nat.Gcd.{IsGcd-from_zero, IsGcd-from_mod, IsGcd-swap, same_from_IsGcd, dvd_trans, dvd_antisymm, le_of_dvd}
+use Rattle.std.proofs.lemmas.Nat.Gcd.{IsGcd-from_zero, IsGcd-from_mod, IsGcd-from_sub, IsGcd-swap, same_from_IsGcd, dvd_trans, dvd_antisymm, le_of_dvd, dvd_refl}
 use Rattle.exact_math.specs.Gcd.{gcd, gcd_within}
 
 IsGcd-gcd_within : (steps a b : ℕ) → b ≤ steps → IsGcd a b (gcd_within steps a b)
@@ -44,6 +44,9 @@ gcd-one a = eq-one_of_dvd-one (gcd_dvd_right a 1)
 
 pub gcd-one_left : (a : ℕ) → gcd 1 a ≡ 1
 gcd-one_left a = eq-one_of_dvd-one (gcd_dvd_left 1 a)
+
+pub gcd_self : (a : ℕ) → gcd a a ≡ a
+gcd_self a = gcd_from_IsGcd a a a (dvd_refl a, dvd_refl a, λ d p q. p)
 
 -- Euclid's step
 pub gcd-mod : (a b : ℕ) → gcd a b ≡ gcd b (a % b)
@@ -108,6 +111,18 @@ pub dvd_from_product : (d a b : ℕ) → gcd d a ≡ 1 → d ∣ a * b → d ∣
 dvd_from_product d a b e h =
     let is : gcd (d * b) (a * b) ≡ b = gcd-mul_right b d a ∙ ap (λ n. n * b) e ∙ one-mul b in
     subst (λ n. d ∣ n) is (dvd_gcd (d * b) (a * b) d (dvd-mul_right d b) h)
+
+-- a factor that has no divisor in common with the other number drops out
+pub gcd-strip : (k m n : ℕ) → gcd k n ≡ 1 → gcd (k * m) n ≡ gcd m n
+gcd-strip k m n e =
+    let g = gcd (k * m) n in
+    let apart : gcd g k ≡ 1 = one_from_dvd k n _ e (gcd_dvd_right g k) (dvd_trans _ (gcd_dvd_left g k) (gcd_dvd_right (k * m) n)) in
+    dvd_antisymm (dvd_gcd m n g (dvd_from_product g k m apart (gcd_dvd_left (k * m) n)) (gcd_dvd_right (k * m) n))
+        (dvd_gcd (k * m) n _ (dvd_trans _ (gcd_dvd_left m n) (dvd-mul_left m k)) (gcd_dvd_right m n))
+
+-- a difference in place of the greater number
+pub gcd-sub : (a b : ℕ) → b ≤ a → gcd (a - b) b ≡ gcd a b
+gcd-sub a b h = sym (gcd_from_IsGcd a b _ (IsGcd-from_sub a b _ h (gcd-is (a - b) b)))
 
 pub gcd-product : (a b c : ℕ) → gcd a c ≡ 1 → gcd b c ≡ 1 → gcd (a * b) c ≡ 1
 gcd-product a b c p q =

@@ -102,16 +102,17 @@ impl Frac {
         Frac { num, den }
     }
 
-    // The fraction num/den, whose terms need not be lowest.
-    fn reduced(num: i128, den: u128) -> Frac
+    // The fraction num/den, where `common` has each divisor that the two terms have in common.
+    fn reduced(num: i128, den: u128, common: u128) -> Frac
         requires positive { 0 < den }
         requires num_narrow { IsNarrow num }
         requires den_narrow { den < 2 ^ 127 }
+        requires common_divisors { gcd_of (nat_abs num) den ≡ gcd_of (nat_abs num) common }
         ensures { result ≡ frac num den }
     {
         let size = num.unsigned_abs();
-        let common = gcd_of_sizes(size, den);
-        Frac::of_terms(signed(num < 0, size / common), den / common)
+        let again = gcd_of_sizes(size, common);
+        Frac::of_terms(signed(num < 0, size / again), den / again)
     }
 
     /// The sum; `Wide` where a product or sum on the way to it is too large, as `SumInRange` says.
@@ -127,7 +128,7 @@ impl Frac {
         let second = multiple(other.num(), left)?;
         let num = sum(first, second)?;
         let den = product(left, right_den)?;
-        Ok(Frac::reduced(num, den))
+        Ok(Frac::reduced(num, den, common))
     }
 
     /// The difference, that is the sum with the negated number.
