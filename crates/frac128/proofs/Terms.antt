@@ -1,17 +1,19 @@
 -- The terms of fractions: what the fields of a `Frac` are, and the terms of what is made from two.
-use Rattle.std.proofs.Common.{◌≡◌, ◌≢◌, ℕ, zero, suc, ◌*◌, ◌/◌, ◌^◌, ◌<◌, ◌≤◌, T, nat_lt, Bool, true, false, not, ltb, ℤ, pos, negsuc, ◌+ℤ◌, ◌-ℤ◌, ◌*ℤ◌, neg_ℤ, nat_abs, int_div, int_lt, FitsSigned, refl, sym, ap, ap₂, ◌∙◌, ltb→lt, subst, subst₂, arith, mul-pos, div-le_self, lt_of_le_of_lt, tests}
+use Rattle.std.proofs.Common.{◌≡◌, ◌≢◌, ℕ, zero, suc, ◌*◌, ◌/◌, ◌^◌, ◌<◌, ◌≤◌, T, nat_lt, Bool, true, false, not, ltb, ℤ, pos, negsuc, ◌+ℤ◌, ◌-ℤ◌, ◌*ℤ◌, neg_ℤ, nat_abs, int_div, int_lt, FitsSigned, refl, sym, ap, ap₂, ◌∙◌, ltb→lt, subst, subst₂, arith, mul-pos, div-one, div-le_self, lt_of_le_of_lt, tests}
 use Rattle.std.proofs.Math.Nat.{zero-div}
 use Rattle.std.proofs.Common.{Result, OkIff, Err, to_z, of_z}
 use lib.Signed.{mag}
 use Rattle.std.specs.Int.{w128}
+use Rattle.std.proofs.lemmas.Nat.{mul-lt}
+use Rattle.exact_math.proofs.IntegerOrder.{abs_add_le}
 use Rattle.std.proofs.lemmas.Int.{fits_signed_from_abs, to_z-of_z}
 use Rattle.exact_math.specs.Gcd.{gcd}
-use Rattle.exact_math.specs.GcdLaws.{gcd-quotients, gcd_pos_right, gcd-mul-div_left, gcd-mul-div_right, nat_abs-neg, gcd-product, gcd-product_right, gcd-one_from_dvd, gcd_comm, quotient_dvd, nat_abs-neg_ℤ, gcd_dvd_left, gcd_dvd_right, reduced_positive}
+use Rattle.exact_math.specs.GcdLaws.{gcd-one, gcd-quotients, gcd_pos_right, gcd-mul-div_left, gcd-mul-div_right, nat_abs-neg, gcd-product, gcd-product_right, gcd-one_from_dvd, gcd_comm, quotient_dvd, nat_abs-neg_ℤ, gcd_dvd_left, gcd_dvd_right, reduced_positive}
 use Rattle.exact_math.specs.Rational.{ℚ, frac, ratio, ◌+ℚ◌, ◌*ℚ◌, neg_ℚ, inv_ℚ}
 use Rattle.exact_math.specs.RationalCode.{frac-lowest, frac-self, terms_lowest, den_pos}
-use Rattle.exact_math.proofs.IntegerRing.{expand, linear, mul_neg, neg_mul, neg_neg, zero_add}
+use Rattle.exact_math.proofs.IntegerRing.{expand, linear, mul_neg, neg_mul, neg_neg, zero_add, mul_one}
 use Rattle.exact_math.proofs.RationalLaws.{same_frac}
-use Rattle.frac128.specs.Range.{IsNarrow, InRange, IsReduced}
+use Rattle.frac128.specs.Range.{IsNarrow, InRange, IsReduced, SumInRange}
 use Rattle.frac128.specs.Sign.{with_sign, differ}
 
 -- the terms of a value are its fields
@@ -263,3 +265,60 @@ sum_is_wide a c x y e f wide h = wide (subst IsNarrow (sym (sum_at a c x y e.0 f
 -- numbers with the same bits are equal
 pub same_from_bits : (x y : ℤ) → mag x < 2 ^ 127 → mag y < 2 ^ 127 → of_z w128 x ≡ of_z w128 y → x ≡ y
 same_from_bits x y h k e = sym (again x h) ∙ ap (to_z w128) e ∙ again y k
+
+-- ---- numbers of 63 bits
+
+pub quotients_small : (m n g h : ℕ) → m < 2 ^ 63 → n < 2 ^ 63 → m / g * (n / h) < 2 ^ 127
+quotients_small m n g h p q =
+    let low : m / g * (n / h) < 2 ^ 63 * 2 ^ 63 = mul-lt _ _ _ _ (lt_of_le_of_lt (div-le_self m g) p) (lt_of_le_of_lt (div-le_self n h) q) in
+    omega arith
+
+pub word_sum_narrow : (x y : ℤ) → nat_abs x < 2 ^ 126 → nat_abs y < 2 ^ 126 → IsNarrow (x +ℤ y)
+word_sum_narrow x y h k = omega (arith, abs_add_le x y)
+
+pub word_den_small : (b d g : ℕ) → b < 2 ^ 63 → d < 2 ^ 63 → b / g * d < 2 ^ 127
+word_den_small b d g p q =
+    let low : b / g * d < 2 ^ 63 * 2 ^ 63 = mul-lt _ _ _ _ (lt_of_le_of_lt (div-le_self b g) p) q in
+    omega arith
+
+-- a small product of 63-bit numbers is in range
+pub word_narrow : (x : ℤ) → nat_abs x < 2 ^ 126 → IsNarrow x
+word_narrow x h = omega arith
+
+-- ---- whole numbers
+
+module _ (p q : ℚ) (p_whole : p.den ≡ 1) (q_whole : q.den ≡ 1) where
+  part_one : (q.den / gcd p.den q.den ≡ 1) × (p.den / gcd p.den q.den ≡ 1)
+  part_one =
+      let e : gcd p.den q.den ≡ 1 = ap (gcd p.den) q_whole ∙ gcd-one p.den in
+      (ap₂ ◌/◌ q_whole e, ap₂ ◌/◌ p_whole e)
+
+  whole_parts : (p.num *ℤ pos (q.den / gcd p.den q.den) ≡ p.num) × (q.num *ℤ pos (p.den / gcd p.den q.den) ≡ q.num) × (p.den / gcd p.den q.den * q.den ≡ 1)
+  whole_parts =
+      (ap (λ k. p.num *ℤ pos k) part_one.0 ∙ mul_one p.num, ap (λ k. q.num *ℤ pos k) part_one.1 ∙ mul_one q.num, ap₂ ◌*◌ part_one.1 q_whole)
+
+  -- the sum is the numerators' sum
+  pub whole_sum : p +ℚ q ≡ frac (p.num +ℤ q.num) 1
+  whole_sum = sym (sum_is p q).1 ∙ ap₂ frac (ap₂ ◌+ℤ◌ whole_parts.0 whole_parts.1) whole_parts.2
+
+  pub whole_sum_range : IsNarrow p.num → IsNarrow q.num → IsNarrow (p.num +ℤ q.num) → SumInRange p q
+  whole_sum_range h k s = record {
+    first = subst IsNarrow (sym whole_parts.0) h;
+    second = subst IsNarrow (sym whole_parts.1) k;
+    sum = subst IsNarrow (sym (ap₂ ◌+ℤ◌ whole_parts.0 whole_parts.1)) s;
+    den = subst (λ k. k < 2 ^ 127) (sym whole_parts.2) (omega arith);
+  }
+
+  pub narrow_from_range : SumInRange p q → IsNarrow (p.num +ℤ q.num)
+  narrow_from_range h = subst IsNarrow (ap₂ ◌+ℤ◌ whole_parts.0 whole_parts.1) h.sum
+
+  -- the product is the numerators' product
+  pub whole_product : (m n : ℕ) → m ≡ nat_abs p.num → n ≡ nat_abs q.num → ((p *ℚ q).num ≡ with_sign (differ (int_lt p.num (pos 0)) (int_lt q.num (pos 0))) (m * n)) × ((p *ℚ q).den ≡ 1) × (nat_abs (p *ℚ q).num ≡ m * n)
+  whole_product m n is_m is_n =
+      let t = product_is p q m n 1 1 1 1 is_m is_n (sym p_whole) (sym q_whole) (sym (gcd-one m)) (sym (gcd-one n)) in
+      let size_is : m / 1 * (n / 1) ≡ m * n = ap₂ ◌*◌ (div-one m) (div-one n) in
+      (t.0 ∙ ap (with_sign (differ (int_lt p.num (pos 0)) (int_lt q.num (pos 0)))) size_is, t.1, t.2 ∙ size_is)
+
+-- a whole number in range is a `Frac`
+pub whole_made : (n : ℤ) → IsNarrow n → IsReduced n 1
+whole_made n h = record { positive = omega arith; lowest = gcd-one (nat_abs n); num_narrow = h; den_narrow = omega arith }

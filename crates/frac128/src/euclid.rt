@@ -28,6 +28,9 @@ pub(crate) fn gcd_of_sizes(a: u128, b: u128) -> u128
     if low == 0 {
         return high;
     }
+    if low == 1 {
+        return 1;
+    }
     let rest = if high >= WORD { high % low } else { high };
     u128::from(gcd_of_words(low as u64, rest as u64))
 }
@@ -42,6 +45,9 @@ pub(crate) fn gcd_of_words(a: u64, b: u64) -> u64
     }
     if b == 0 {
         return a;
+    }
+    if a == 1 || b == 1 {
+        return 1;
     }
     let common = a.trailing_zeros().min(b.trailing_zeros());
     gcd_of_odd(a >> a.trailing_zeros(), b >> b.trailing_zeros()) << common

@@ -8,7 +8,7 @@ use Rattle.exact_math.specs.Rational.{frac, ◌+ℚ◌}
 use Rattle.frac128.specs.Range.{SumInRange, IsNarrow}
 use Rattle.frac128.proofs.Terms.{gcd_some, parts_are, sum_is, refused, multiple_is, multiple_is_not, sum_is_narrow, sum_is_wide, fits_from_narrow}
 use Rattle.frac128.proofs.Lowering.{sum_gcd}
-use Rattle.frac128.proofs.frac.Frac.add.Goals as goal
+use Rattle.frac128.proofs.frac.Frac.add_long.Goals as goal
 
 pub nonzero_div-left : goal.nonzero_div-left
 nonzero_div-left c = gcd_some _ _ _ c.gcd_of_sizes-common.ensures c.divisor-right_den.ensures.positive

@@ -6,7 +6,7 @@ use Rattle.exact_math.specs.Rational.{frac, ◌*ℚ◌}
 use Rattle.frac128.specs.Range.{InRange, IsReduced}
 use Rattle.frac128.specs.Sign.{with_sign, differ}
 use Rattle.frac128.proofs.Terms.{gcd_some, product_is, made_of, refused}
-use Rattle.frac128.proofs.frac.Frac.mul.Goals as goal
+use Rattle.frac128.proofs.frac.Frac.mul_long.Goals as goal
 
 pub nonzero_div-left_size : goal.nonzero_div-left_size
 nonzero_div-left_size c = gcd_some _ _ _ c.gcd_of_sizes-left.ensures c.divisor-right_den.ensures.positive
