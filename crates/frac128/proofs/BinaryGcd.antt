@@ -1,8 +1,8 @@
 -- The greatest common divisor by shifts and differences: factors of 2 drop out beside an odd number.
-use Rattle.std.proofs.Common.{◌≡◌, ◌≢◌, ◌⊎◌, ⊎_elim, ℕ, zero, suc, ◌+◌, ◌-◌, ◌*◌, ◌/◌, ◌%◌, ◌^◌, ◌<◌, ◌≤◌, min, refl, sym, ap, ap₂, ◌∙◌, subst, arith, mul_comm, mul_assoc, mod-eq_of_lt, pow-suc, pow-add, one-add}
+use Rattle.std.proofs.Common.{◌≡◌, ◌≢◌, ⊎_elim, ℕ, zero, suc, ◌+◌, ◌-◌, ◌*◌, ◌/◌, ◌%◌, ◌^◌, ◌<◌, min, sym, ap, ap₂, ◌∙◌, subst, arith, mul_comm, mul_assoc, mod-eq_of_lt, pow-suc, pow-add, one-add}
 use Rattle.std.specs.Int.{w64, abs_diff, trailing_zeros}
 use Rattle.std.proofs.Math.Nat.{mod-one}
-use Rattle.std.proofs.lemmas.Nat.{mod-pow-add, shr_split, pow_pos}
+use Rattle.std.proofs.lemmas.Nat.{mod-pow-add, shr_split}
 use Rattle.std.proofs.lemmas.Nat.Bits.{bit_at-trailing_zeros}
 use Rattle.std.proofs.lemmas.Bool.{cases_lt}
 use Rattle.std.proofs.lemmas.Bool.Decides.{nat_tests}
@@ -46,9 +46,9 @@ module _ (n : ℕ) (some : 0 < n) (fits : n < 2 ^ 64) where
 apart : (x y : ℕ) → x ≢ y → (0 < abs_diff x y) × (gcd (abs_diff x y) (min x y) ≡ gcd x y)
 apart x y ne = ⊎_elim
     (λ h. let low : min x y ≡ x = omega arith in let is : abs_diff x y ≡ y - x = grind (arith, nat_tests) in
-        (omega arith, ap₂ gcd is low ∙ gcd-sub y x (omega arith) ∙ gcd_comm y x))
+    (omega arith, ap₂ gcd is low ∙ gcd-sub y x (omega arith) ∙ gcd_comm y x))
     (λ h. let low : min x y ≡ y = omega arith in let is : abs_diff x y ≡ x - y = grind (arith, nat_tests) in
-        (omega arith, ap₂ gcd is low ∙ gcd-sub x y (omega arith)))
+    (omega arith, ap₂ gcd is low ∙ gcd-sub x y (omega arith)))
     (cases_lt x y)
 
 below_64 : (x y : ℕ) → x < 2 ^ 64 → y < 2 ^ 64 → abs_diff x y < 2 ^ 64
@@ -86,9 +86,9 @@ module _ (m n : ℕ) (m_odd : m % 2 ≡ 1) (n_odd : n % 2 ≡ 1) where
   powers : (i j : ℕ) → gcd (2 ^ i * m) (2 ^ j * n) ≡ gcd m n * 2 ^ min i j
   powers i j = ⊎_elim
       (λ h. let e : i + (j - i) ≡ j = omega arith in let low : min i j ≡ i = omega arith in
-          ap (λ k. gcd (2 ^ i * m) (2 ^ k * n)) (sym e) ∙ fewer i (j - i) ∙ mul_comm (2 ^ i) (gcd m n) ∙ ap (λ k. gcd m n * 2 ^ k) (sym low))
+      ap (λ k. gcd (2 ^ i * m) (2 ^ k * n)) (sym e) ∙ fewer i (j - i) ∙ mul_comm (2 ^ i) (gcd m n) ∙ ap (λ k. gcd m n * 2 ^ k) (sym low))
       (λ h. let e : j + (i - j) ≡ i = omega arith in let low : min i j ≡ j = omega arith in
-          ap (λ k. gcd (2 ^ k * m) (2 ^ j * n)) (sym e) ∙ more j (i - j) ∙ mul_comm (2 ^ j) (gcd m n) ∙ ap (λ k. gcd m n * 2 ^ k) (sym low))
+      ap (λ k. gcd (2 ^ k * m) (2 ^ j * n)) (sym e) ∙ more j (i - j) ∙ mul_comm (2 ^ j) (gcd m n) ∙ ap (λ k. gcd m n * 2 ^ k) (sym low))
       (cases_lt i j)
 
 -- the divisor of the odd parts, with the common factors of 2, fits 64 bits

@@ -1,11 +1,11 @@
 -- A sum over the least common denominator has no common divisor with it but those of the greatest common divisor of the two denominators (Knuth, The Art of Computer Programming, 4.5.1).
-use Rattle.std.proofs.Common.{◌≡◌, ℕ, zero, suc, ◌+◌, ◌-◌, ◌*◌, ◌/◌, ◌<◌, ℤ, pos, negsuc, ◌+ℤ◌, ◌*ℤ◌, neg_ℤ, nat_abs, refl, sym, ap, ap₂, ◌∙◌, subst, arith, mul_comm, mul_assoc}
+use Rattle.std.proofs.Common.{◌≡◌, ℕ, suc, ◌+◌, ◌-◌, ◌*◌, ◌/◌, ◌<◌, ℤ, pos, negsuc, ◌+ℤ◌, ◌*ℤ◌, neg_ℤ, nat_abs, sym, ap, ◌∙◌, subst, mul_comm}
 use Rattle.std.specs.Int.{◌∣◌}
-use Rattle.std.proofs.Math.Nat.{dvd-add, dvd-sub, dvd-mul_left, dvd-mul_right}
+use Rattle.std.proofs.Math.Nat.{dvd-add, dvd-sub, dvd-mul_left}
 use Rattle.std.proofs.lemmas.Nat.Gcd.{dvd_trans, dvd_refl}
 use Rattle.std.proofs.lemmas.Int.{unsigned_abs-mul}
 use Rattle.exact_math.specs.Gcd.{gcd}
-use Rattle.exact_math.specs.GcdLaws.{gcd_comm, gcd-strip, gcd_dvd_left, gcd_dvd_right, gcd-one_from_dvd, gcd-quotients, gcd_pos_right, gcd-mul-div_left, gcd-mul-div_right, one_from_dvd, dvd_from_product, quotient_dvd, nat_abs-neg_ℤ}
+use Rattle.exact_math.specs.GcdLaws.{gcd_comm, gcd-strip, gcd_dvd_left, gcd_dvd_right, gcd-one_from_dvd, gcd-quotients, gcd_pos_right, gcd-mul-div_right, one_from_dvd, dvd_from_product, quotient_dvd, nat_abs-neg_ℤ}
 use Rattle.exact_math.proofs.IntegerRing.{linear, add_comm}
 
 dvd_abs_add : (g : ℕ) (x y : ℤ) → g ∣ nat_abs x → g ∣ nat_abs y → g ∣ nat_abs (x +ℤ y)
@@ -38,7 +38,6 @@ apart x y l r p q =
     one_from_dvd r l g q (dvd_from_product g (nat_abs x) r from_x in_first) in_l
 
 module _ (a c : ℤ) (b d : ℕ) (a_lowest : gcd (nat_abs a) b ≡ 1) (c_lowest : gcd (nat_abs c) d ≡ 1) (d_some : 0 < d) where
-
   pub sum_gcd : gcd (nat_abs (a *ℤ pos (d / gcd b d) +ℤ c *ℤ pos (b / gcd b d))) (b / gcd b d * d) ≡ gcd (nat_abs (a *ℤ pos (d / gcd b d) +ℤ c *ℤ pos (b / gcd b d))) (gcd b d)
   sum_gcd =
       let e = gcd b d in
@@ -54,5 +53,6 @@ module _ (a c : ℤ) (b d : ℕ) (a_lowest : gcd (nat_abs a) b ≡ 1) (c_lowest 
     where
       gcd_from : (x : ℤ) (m k : ℕ) → gcd (nat_abs x) m ≡ 1 → k ∣ m → gcd (nat_abs x) k ≡ 1
       gcd_from x m k one h = gcd-one_from_dvd (nat_abs x) m (nat_abs x) k one (dvd_refl (nat_abs x)) h
+
       turned : gcd (d / gcd b d) (nat_abs (a *ℤ pos (d / gcd b d) +ℤ c *ℤ pos (b / gcd b d))) ≡ gcd (d / gcd b d) (nat_abs (c *ℤ pos (b / gcd b d) +ℤ a *ℤ pos (d / gcd b d)))
       turned = ap (λ z. gcd (d / gcd b d) (nat_abs z)) (add_comm (a *ℤ pos (d / gcd b d)) (c *ℤ pos (b / gcd b d)))

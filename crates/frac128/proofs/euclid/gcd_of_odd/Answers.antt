@@ -1,4 +1,4 @@
-use Rattle.std.proofs.Common.{◌^◌, sym, ap, ◌∙◌, arith, div-le_self, lt_of_le_of_lt}
+use Rattle.std.proofs.Common.{◌^◌, sym, ap, ◌∙◌, div-le_self, lt_of_le_of_lt}
 use Rattle.std.specs.Int.{w64, trailing_zeros}
 use Rattle.exact_math.specs.Gcd.{gcd}
 use Rattle.exact_math.specs.GcdLaws.{gcd_self}

@@ -1,4 +1,4 @@
-use Rattle.std.proofs.Common.{ap, ap₂, sym, ◌∙◌, arith}
+use Rattle.std.proofs.Common.{ap, sym, ◌∙◌, arith}
 use Rattle.exact_math.specs.Gcd.{gcd}
 use Rattle.exact_math.specs.GcdLaws.{gcd-zero, gcd-zero_left, gcd-one, gcd-one_left}
 use Rattle.frac128.proofs.BinaryGcd.{odd_part, words_are}
@@ -23,6 +23,6 @@ returns c =
 
 pub returns-then-a-eq1 : goal.returns-then-a-eq1
 returns-then-a-eq1 c = elim c.then-a-eq1.branch [
-  then-a-eq1-via-then-a-eq1 w ↦ sym (ap (λ n. gcd n c.args.b) w.if-a-eq1.true ∙ gcd-one_left c.args.b)
+  | then-a-eq1-via-then-a-eq1 w ↦ sym (ap (λ n. gcd n c.args.b) w.if-a-eq1.true ∙ gcd-one_left c.args.b)
   | then-a-eq1-via-else-a-eq1+then-b-eq1 w ↦ sym (ap (gcd c.args.a) w.if-b-eq1.true ∙ gcd-one c.args.a)
 ]

@@ -3,7 +3,7 @@ use Rattle.std.specs.Int.{w128}
 use Rattle.std.proofs.lemmas.Int.{to_z-of_z}
 use Rattle.std.proofs.lemmas.Result.{err_from_is_err_and}
 use Rattle.exact_math.specs.Rational.{frac}
-use Rattle.frac128.specs.Range.{SumInRange, IsNarrow}
+use Rattle.frac128.specs.Range.{IsNarrow}
 use Rattle.frac128.proofs.Terms.{refused, sum_is_narrow, sum_is_wide, whole_sum, whole_sum_range, narrow_from_range, whole_made, fits_from_narrow}
 use Rattle.frac128.proofs.frac.Frac.add_whole.Goals as goal
 
@@ -33,6 +33,7 @@ returns c =
     let p = c.args.self.now in
     let q = c.args.other.now in
     let m = made c.before in
-    let fits : FitsSigned w128 c.in_ok-num.num = fits_from_narrow _ m.1 in
-    (whole_sum_range p q c.requires.left c.requires.right c.num.ensures.narrow c.num-2.ensures.narrow (subst IsNarrow m.0 m.1),
-    simp to_z-of_z at c.of_terms.ensures.value ∙ ap (λ n. frac n 1) m.0 ∙ sym (whole_sum p q c.requires.left c.requires.right))
+    let fits : FitsSigned w128 c.in_ok-num.num = fits_from_narrow _ m.1 in (
+      whole_sum_range p q c.requires.left c.requires.right c.num.ensures.narrow c.num-2.ensures.narrow (subst IsNarrow m.0 m.1),
+      simp to_z-of_z at c.of_terms.ensures.value ∙ ap (λ n. frac n 1) m.0 ∙ sym (whole_sum p q c.requires.left c.requires.right),
+    )
