@@ -26,6 +26,7 @@ same_factors (i ∷ m) (j ∷ n) e = go (eqb i j) refl (same_factors m n) e
     go false h ih e = other_place (ltb i j) e
 
 module _ {A : Type 0} (r : Ring A) (atoms : List A) where
+  -- joined factors mean the product
   join_factors_is : (i : ℕ) (m : List ℕ) (rest : List ℕ → List ℕ) → ((k : List ℕ) → product_of r atoms (rest k) ≡ r.mul (product_of r atoms m) (product_of r atoms k)) → (n : List ℕ) → product_of r atoms (join_factors i m rest n) ≡ r.mul (product_of r atoms (i ∷ m)) (product_of r atoms n)
   join_factors_is i m rest h [] = sym (r.mul_one _)
   join_factors_is i m rest h (j ∷ n) =
@@ -38,6 +39,7 @@ module _ {A : Type 0} (r : Ring A) (atoms : List A) where
   multiply_factors_is [] n = sym (Laws.one_mul r _)
   multiply_factors_is (i ∷ m) n = join_factors_is i m (λ k. multiply_factors m k) (λ k. multiply_factors_is m k) n
 
+  -- a term in front, or left out at zero, is added
   put_term_is : (c : ℤ) (m : List ℕ) (p : List Term) → sum_of r atoms (put_term c m p) ≡ r.add (r.mul (r.literal c) (product_of r atoms m)) (sum_of r atoms p)
   put_term_is (pos zero) m p = sym (ap (λ x. r.add x (sum_of r atoms p)) (Laws.zero_mul r _) ∙ Laws.zero_add r _)
   put_term_is (pos (suc n)) m p = refl
@@ -48,6 +50,7 @@ module _ {A : Type 0} (r : Ring A) (atoms : List A) where
   like_terms c d x y s q e = subst (λ z. r.add (r.mul (r.literal (c +ℤ d)) x) (r.add s q) ≡ r.add (r.add (r.mul (r.literal c) x) s) (r.add (r.mul (r.literal d) z) q)) e
       (simp (r.literal_add, Laws.add_mul r, r.add_assoc, Laws.add_left_comm r))
 
+  -- joined terms mean the sum
   join_terms_is : (t : Term) (p : List Term) (rest : List Term → List Term) → ((s : List Term) → sum_of r atoms (rest s) ≡ r.add (sum_of r atoms p) (sum_of r atoms s)) → (q : List Term) → sum_of r atoms (join_terms t p rest q) ≡ r.add (sum_of r atoms (t ∷ p)) (sum_of r atoms q)
   join_terms_is t p rest h [] = sym (r.add_zero _)
   join_terms_is t p rest h (s ∷ q) = go (place t.factors s.factors) refl (join_terms_is t p rest h q)
@@ -67,6 +70,7 @@ module _ {A : Type 0} (r : Ring A) (atoms : List A) where
   add_sums_is [] q = sym (Laws.zero_add r _)
   add_sums_is (t ∷ p) q = join_terms_is t p (λ s. add_sums p s) (λ s. add_sums_is p s) q
 
+  -- the coefficients of a product come together
   regroup : (c d : ℤ) (x y : A) → r.mul (r.literal (c *ℤ d)) (r.mul x y) ≡ r.mul (r.mul (r.literal c) x) (r.mul (r.literal d) y)
   regroup c d x y = simp (r.literal_mul, r.mul_assoc, Laws.mul_left_comm r)
 
@@ -131,10 +135,11 @@ reads_atom p = record { expression = atom p.index; means = p.holds }
 pub record Digits (n : ℤ) : Type 0 where
   pub computes : eqb (nat_abs n) (nat_abs n) ≡ true
 
--- digits, with or without a sign
+-- digits without a sign
 abbrev pub whole : (k : ℕ) → eqb k k ≡ true → Digits (pos k)
 whole k e = record { computes = e }
 
+-- digits with a sign
 abbrev pub below_zero : (k : ℕ) → eqb (suc k) (suc k) ≡ true → Digits (negsuc k)
 below_zero k e = record { computes = e }
 
@@ -142,22 +147,27 @@ below_zero k e = record { computes = e }
 abbrev pub reads_literal : {A : Type 0} {r : Ring A} {atoms : List A} {n : ℤ} → Digits n → Reading r atoms (r.literal n)
 reads_literal {n = n} d = record { expression = number n; means = refl }
 
--- the first atom, and the next ones
+-- the first atom
 abbrev pub at_0 : {A : Type 0} {r : Ring A} {a : A} {l : List A} → Position r (a ∷ l) a
 at_0 = record { index = 0; holds = refl }
 
+-- the second atom
 abbrev pub at_1 : {A : Type 0} {r : Ring A} {a b : A} {l : List A} → Position r (a ∷ b ∷ l) b
 at_1 = record { index = 1; holds = refl }
 
+-- the third atom
 abbrev pub at_2 : {A : Type 0} {r : Ring A} {a b c : A} {l : List A} → Position r (a ∷ b ∷ c ∷ l) c
 at_2 = record { index = 2; holds = refl }
 
+-- the fourth atom
 abbrev pub at_3 : {A : Type 0} {r : Ring A} {a b c d : A} {l : List A} → Position r (a ∷ b ∷ c ∷ d ∷ l) d
 at_3 = record { index = 3; holds = refl }
 
+-- the fifth atom
 abbrev pub at_4 : {A : Type 0} {r : Ring A} {a b c d e : A} {l : List A} → Position r (a ∷ b ∷ c ∷ d ∷ e ∷ l) e
 at_4 = record { index = 4; holds = refl }
 
+-- the sixth atom
 abbrev pub at_5 : {A : Type 0} {r : Ring A} {a b c d e f : A} {l : List A} → Position r (a ∷ b ∷ c ∷ d ∷ e ∷ f ∷ l) f
 at_5 = record { index = 5; holds = refl }
 

@@ -97,11 +97,13 @@ module _ {A : Type 0} (r : Ring A) where
       ∙ ap (λ z. r.add z (get_or (combination r n y rows) j (r.literal (pos 0)))) (scale-at k row j)
       ∙ ap (r.add _) (combination-at n y rows j h.1)
 
+  -- a first row in front of each column adds its multiple
   times-put_row : (row : List A) (columns : List (List A)) (k : A) (y : List A) → length row ≡ length columns → times_vector r (put_row row columns) (k ∷ y) ≡ add r (scale r k row) (times_vector r columns y)
   times-put_row [] columns k y e = refl
   times-put_row (a ∷ row) [] k y e = absurd (omega arith)
   times-put_row (a ∷ row) (c ∷ columns) k y e = ap₂ (λ (z : A) (l : List A). r.add z (dot r c y) ∷ l) (r.mul_comm a k) (times-put_row row columns k y (omega arith))
 
+  -- empty columns give zeros
   times-empty_columns : (n : ℕ) (y : List A) → times_vector r (replicate n []) y ≡ zeros r n
   times-empty_columns zero y = refl
   times-empty_columns (suc n) y = ap {B = List A} (λ l. r.literal (pos 0) ∷ l) (times-empty_columns n y)
