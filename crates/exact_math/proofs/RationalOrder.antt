@@ -3,6 +3,7 @@ use Rattle.std.proofs.Common.{◌≡◌, ◌⊎◌, inl, inr, ⊎_elim, ℕ, ◌
 use Rattle.std.specs.Ordering.{int_cmp, MatchOrdering}
 use Rattle.std.specs.Cmp.{IsTotalOrder}
 use Rattle.std.proofs.lemmas.Cmp.{int_cmp_total, int_ranked, by_ranked}
+use Rattle.exact_math.specs.Ordered.{IsOrdered}
 use Rattle.exact_math.specs.Rational.{ℚ, whole, frac, ◌+ℚ◌, neg_ℚ, ◌-ℚ◌, ◌*ℚ◌, ◌≤ℚ◌, ◌<ℚ◌, rational_cmp}
 use Rattle.exact_math.proofs.IntegerRing.{expand, linear, neg_mul}
 use Rattle.exact_math.proofs.IntegerOrder as whole_numbers
@@ -163,4 +164,13 @@ rational_cmp_total = record {
   antisymm = λ p q. int_cmp_total.antisymm (p.num *ℤ pos q.den) (q.num *ℤ pos p.den);
   trans = λ p q r e f. less_from_lt _ _ (lt_trans p q r (record { lt = lt_from_less _ _ e }) (record { lt = lt_from_less _ _ f })).lt;
   congr = λ p q r e. ap (λ x. rational_cmp x r) (same_from_cross p q (subst (λ o. MatchOrdering o ((p.num *ℤ pos q.den) <ℤ (q.num *ℤ pos p.den)) ((p.num *ℤ pos q.den) ≡ (q.num *ℤ pos p.den)) ((q.num *ℤ pos p.den) <ℤ (p.num *ℤ pos q.den))) e (int_ranked _ _ (rational_cmp p q) refl)));
+}
+
+-- sums keep the order, and products of numbers that are not negative
+pub rationals_are_ordered : IsOrdered ring.rationals ◌≤ℚ◌
+rationals_are_ordered = record {
+  le_refl = le_refl;
+  le_trans = le_trans;
+  add_le = λ p q r s h k. add_le p q r s h k;
+  mul_nonneg = mul_nonneg;
 }

@@ -118,7 +118,7 @@ gcd-strip k m n e =
     let g = gcd (k * m) n in
     let apart : gcd g k ≡ 1 = one_from_dvd k n _ e (gcd_dvd_right g k) (dvd_trans _ (gcd_dvd_left g k) (gcd_dvd_right (k * m) n)) in
     dvd_antisymm (dvd_gcd m n g (dvd_from_product g k m apart (gcd_dvd_left (k * m) n)) (gcd_dvd_right (k * m) n))
-        (dvd_gcd (k * m) n _ (dvd_trans _ (gcd_dvd_left m n) (dvd-mul_left m k)) (gcd_dvd_right m n))
+    (dvd_gcd (k * m) n _ (dvd_trans _ (gcd_dvd_left m n) (dvd-mul_left m k)) (gcd_dvd_right m n))
 
 -- a difference in place of the greater number
 pub gcd-sub : (a b : ℕ) → b ≤ a → gcd (a - b) b ≡ gcd a b
