@@ -2,7 +2,7 @@
 use Rattle.std.proofs.Common.{◌≡◌, ◌≢◌, ℕ, zero, suc, ◌*◌, ◌/◌, ◌<◌, ℤ, pos, negsuc, ◌+ℤ◌, ◌*ℤ◌, neg_ℤ, nat_abs, int_div, refl, sym, ap, ◌∙◌, subst, arith, mul_comm, mul_assoc, mul-pos}
 use Rattle.exact_math.specs.Gcd.{gcd}
 use Rattle.exact_math.specs.GcdLaws.{same_lowest, gcd-mul-div_left, gcd-mul-div_right, nat_abs-neg}
-use Rattle.exact_math.specs.Rational.{ℚ, whole, frac, ◌+ℚ◌, neg_ℚ, ◌*ℚ◌}
+use Rattle.exact_math.specs.Rational.{ℚ, whole, frac, ratio, ◌+ℚ◌, neg_ℚ, ◌*ℚ◌}
 pub use Rattle.exact_math.specs.RationalCode.{same_terms, den_pos, terms_lowest, frac-lowest, frac-self}
 use Rattle.exact_math.proofs.IntegerRing.{expand, linear, neg_mul}
 use Rattle.exact_math.proofs.IntegerOrder.{mul_cancel}
@@ -86,6 +86,15 @@ frac_is n d q h e = same_frac n q.num d q.den h (den_pos q) e ∙ frac-self q
 pub whole-frac : (z : ℤ) → whole z ≡ frac z 1
 unfolding whole
 whole-frac z = sym (frac_is z 1 (whole z) (omega arith) refl)
+
+pub ratio-one : (n : ℤ) → ratio n (pos 1) ≡ whole n
+unfolding ratio
+ratio-one n = sym (whole-frac n)
+
+-- the numerator of 0 is 0
+pub num_zero : (q : ℚ) → q ≡ whole (pos 0) → q.num ≡ pos 0
+unfolding whole
+num_zero q e = ap (λ r. r.num) e
 
 -- a number with the numerator 0 is 0
 pub zero_from_num : (q : ℚ) → q.num ≡ pos 0 → q ≡ whole (pos 0)

@@ -166,6 +166,33 @@ rational_cmp_total = record {
   congr = λ p q r e. ap (λ x. rational_cmp x r) (same_from_cross p q (subst (λ o. MatchOrdering o ((p.num *ℤ pos q.den) <ℤ (q.num *ℤ pos p.den)) ((p.num *ℤ pos q.den) ≡ (q.num *ℤ pos p.den)) ((q.num *ℤ pos p.den) <ℤ (p.num *ℤ pos q.den))) e (int_ranked _ _ (rational_cmp p q) refl)));
 }
 
+-- ---- the sign of a number is that of its numerator
+
+pub nonneg_from_num : (q : ℚ) → pos 0 ≤ℤ q.num → whole (pos 0) ≤ℚ q
+unfolding whole
+nonneg_from_num q h = record { le = omega linear }
+
+pub num_nonneg : (q : ℚ) → whole (pos 0) ≤ℚ q → pos 0 ≤ℤ q.num
+unfolding whole
+num_nonneg q h = let s = h.le in omega linear
+
+pub pos_from_num : (q : ℚ) → pos 0 <ℤ q.num → whole (pos 0) <ℚ q
+unfolding whole
+pos_from_num q h = record { lt = omega linear }
+
+pub num_pos : (q : ℚ) → whole (pos 0) <ℚ q → pos 0 <ℤ q.num
+unfolding whole
+num_pos q h = let s = h.lt in omega linear
+
+-- whole numbers stand in their own order
+pub whole_le : (m n : ℤ) → m ≤ℤ n → whole m ≤ℚ whole n
+unfolding whole
+whole_le m n h = record { le = omega linear }
+
+pub le_from_whole : (m n : ℤ) → whole m ≤ℚ whole n → m ≤ℤ n
+unfolding whole
+le_from_whole m n h = let s = h.le in omega linear
+
 -- sums keep the order, and products of numbers that are not negative
 pub rationals_are_ordered : IsOrdered ring.rationals ◌≤ℚ◌
 rationals_are_ordered = record {

@@ -1,9 +1,9 @@
 -- The rational numbers form a commutative ring, in which each number other than 0 has an inverse.
 use Rattle.std.proofs.Common.{◌≡◌, ◌≢◌, ℕ, zero, suc, ◌*◌, ◌<◌, ℤ, pos, negsuc, ◌+ℤ◌, ◌*ℤ◌, neg_ℤ, refl, sym, ap, ap₂, ◌∙◌, arith, mul-pos}
 use Rattle.exact_math.specs.Ring.{Ring}
-use Rattle.exact_math.specs.Rational.{ℚ, whole, frac, ratio, ◌+ℚ◌, neg_ℚ, ◌*ℚ◌, inv_ℚ}
+use Rattle.exact_math.specs.Rational.{ℚ, whole, frac, ratio, ◌+ℚ◌, neg_ℚ, ◌*ℚ◌, inv_ℚ, ◌/ℚ◌}
 use Rattle.exact_math.proofs.IntegerRing.{expand, linear}
-use Rattle.exact_math.proofs.RationalLaws.{by_frac, same_frac, frac-add, frac-mul, frac-neg, frac-self, whole-frac, den_pos, zero_from_num}
+use Rattle.exact_math.proofs.RationalLaws.{num_zero, by_frac, same_frac, frac-add, frac-mul, frac-neg, frac-self, whole-frac, den_pos, zero_from_num}
 
 -- ---- the identities of whole numbers behind the laws
 
@@ -128,3 +128,13 @@ pub mul_inv : (p : ℚ) → p ≢ whole (pos 0) → p *ℚ inv_ℚ p ≡ whole (
 unfolding inv_ℚ whole
 mul_inv p ne =
     ap (λ x. x *ℚ inv_ℚ p) (sym (frac-self p)) ∙ product_of_turned p.num p.den (den_pos p) (λ e. ne (zero_from_num p e))
+
+-- a quotient times its divisor
+pub div_mul : (p q : ℚ) → q.num ≢ pos 0 → (p /ℚ q) *ℚ q ≡ p
+div_mul p q ne =
+    mul_assoc p (inv_ℚ q) q ∙ ap (λ x. p *ℚ x) (mul_comm (inv_ℚ q) q ∙ mul_inv q (λ e. ne (num_zero q e))) ∙ mul_one p
+
+-- the quotient is the one number with this product
+pub div_is : (p q r : ℚ) → q.num ≢ pos 0 → r *ℚ q ≡ p → p /ℚ q ≡ r
+div_is p q r ne e =
+    ap (λ x. x *ℚ inv_ℚ q) (sym e) ∙ mul_assoc r q (inv_ℚ q) ∙ ap (λ x. r *ℚ x) (mul_inv q (λ z. ne (num_zero q z))) ∙ mul_one r

@@ -1,7 +1,7 @@
 //! The type `Frac`.
 ghost use Rattle.std.specs.Prelude.{◌≡◌, ◌≢◌, ◌^◌, ◌<◌, ◌↔◌, pos, nat_abs, OkIff, IsTrue, int_lt};
 ghost use Rattle.exact_math.specs.Gcd.{gcd as gcd_of};
-ghost use Rattle.exact_math.specs.Rational.{frac, ratio, ◌+ℚ◌, ◌-ℚ◌, ◌*ℚ◌, ◌/ℚ◌, neg_ℚ, inv_ℚ, floor, ceil, IsWhole};
+ghost use Rattle.exact_math.specs.Rational.{whole, frac, ratio, ◌+ℚ◌, ◌-ℚ◌, ◌*ℚ◌, ◌/ℚ◌, neg_ℚ, inv_ℚ, floor, ceil, IsWhole};
 ghost use Rattle.frac128.specs.Range.{InRange, SumInRange, ProductInRange, IsReduced, IsNarrow, IsWord};
 
 use crate::euclid::{gcd_of_sizes, gcd_of_words};
@@ -49,6 +49,14 @@ impl Frac {
             return Err(Wide);
         }
         Ok(Frac::of_terms(signed((num < 0) != (den < 0), size), divisor))
+    }
+
+    /// A whole number as a fraction.
+    pub fn whole(value: i128) -> Frac
+        requires { nat_abs value < 2 ^ 127 }
+        ensures { result ≡ whole value }
+    {
+        Frac::of_terms(value, 1)
     }
 
     /// The numerator, which has the fraction's sign.
