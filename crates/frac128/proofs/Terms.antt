@@ -194,9 +194,9 @@ inverse_made q n s d size ne e f num den is_size is =
     let den_is : (inv_ℚ q).den ≡ size = t.1 ∙ sym (is_size ∙ ap nat_abs e) in
     made_of (inv_ℚ q) num_is den_is (record { num = subst (λ k. k < 2 ^ 127) (sym (ap nat_abs t.0 ∙ nat_abs-with_sign _ q.den)) den; den = subst (λ k. k < 2 ^ 127) (sym t.1) num })
 
-pub product_is : (p q : ℚ) (m n b d g h : ℕ) → m ≡ nat_abs p.num → n ≡ nat_abs q.num → b ≡ p.den → d ≡ q.den → g ≡ gcd m d → h ≡ gcd n b →
+pub product_is : (p q : ℚ) {m n b d g h : ℕ} → m ≡ nat_abs p.num → n ≡ nat_abs q.num → b ≡ p.den → d ≡ q.den → g ≡ gcd m d → h ≡ gcd n b →
     ((p *ℚ q).num ≡ with_sign (differ (int_lt p.num (pos 0)) (int_lt q.num (pos 0))) (m / g * (n / h))) × ((p *ℚ q).den ≡ b / h * (d / g)) × (nat_abs (p *ℚ q).num ≡ m / g * (n / h))
-product_is p q m n b d g h is_m is_n is_b is_d is_g is_h =
+product_is p q {m} {n} {b} {d} {g} {h} is_m is_n is_b is_d is_g is_h =
     let negative = differ (int_lt p.num (pos 0)) (int_lt q.num (pos 0)) in
     let g_is : g ≡ gcd (nat_abs p.num) q.den = is_g ∙ ap₂ gcd is_m is_d in
     let h_is : h ≡ gcd (nat_abs q.num) p.den = is_h ∙ ap₂ gcd is_n is_b in
@@ -212,9 +212,9 @@ refused r P v y e h = subst (λ s. OkIff s P v) (sym e) h
 
 -- ---- sums
 
-pub parts_are : (p q : ℚ) (a c : ℤ) (b d common : ℕ) → a ≡ p.num → c ≡ q.num → b ≡ p.den → d ≡ q.den → common ≡ gcd b d →
+pub parts_are : (p q : ℚ) {a c : ℤ} {b d common : ℕ} → a ≡ p.num → c ≡ q.num → b ≡ p.den → d ≡ q.den → common ≡ gcd b d →
     (a *ℤ pos (d / common) ≡ p.num *ℤ pos (q.den / gcd p.den q.den)) × (c *ℤ pos (b / common) ≡ q.num *ℤ pos (p.den / gcd p.den q.den)) × (b / common * d ≡ p.den / gcd p.den q.den * q.den)
-parts_are p q a c b d common is_a is_c is_b is_d is_common =
+parts_are p q {common = common} is_a is_c is_b is_d is_common =
     let g_is : common ≡ gcd p.den q.den = is_common ∙ ap₂ gcd is_b is_d in
     (ap₂ (λ n k. n *ℤ pos k) is_a (ap₂ ◌/◌ is_d g_is), ap₂ (λ n k. n *ℤ pos k) is_c (ap₂ ◌/◌ is_b g_is), ap₂ ◌*◌ (ap₂ ◌/◌ is_b g_is) is_d)
 
@@ -313,9 +313,9 @@ module _ (p q : ℚ) (p_whole : p.den ≡ 1) (q_whole : q.den ≡ 1) where
   narrow_from_range h = subst IsNarrow (ap₂ ◌+ℤ◌ whole_parts.0 whole_parts.1) h.sum
 
   -- the product is the numerators' product
-  pub whole_product : (m n : ℕ) → m ≡ nat_abs p.num → n ≡ nat_abs q.num → ((p *ℚ q).num ≡ with_sign (differ (int_lt p.num (pos 0)) (int_lt q.num (pos 0))) (m * n)) × ((p *ℚ q).den ≡ 1) × (nat_abs (p *ℚ q).num ≡ m * n)
-  whole_product m n is_m is_n =
-      let t = product_is p q m n 1 1 1 1 is_m is_n (sym p_whole) (sym q_whole) (sym (gcd-one m)) (sym (gcd-one n)) in
+  pub whole_product : {m n : ℕ} → m ≡ nat_abs p.num → n ≡ nat_abs q.num → ((p *ℚ q).num ≡ with_sign (differ (int_lt p.num (pos 0)) (int_lt q.num (pos 0))) (m * n)) × ((p *ℚ q).den ≡ 1) × (nat_abs (p *ℚ q).num ≡ m * n)
+  whole_product {m} {n} is_m is_n =
+      let t = product_is p q is_m is_n (sym p_whole) (sym q_whole) (sym (gcd-one m)) (sym (gcd-one n)) in
       let size_is : m / 1 * (n / 1) ≡ m * n = ap₂ ◌*◌ (div-one m) (div-one n) in
       (t.0 ∙ ap (with_sign (differ (int_lt p.num (pos 0)) (int_lt q.num (pos 0)))) size_is, t.1, t.2 ∙ size_is)
 

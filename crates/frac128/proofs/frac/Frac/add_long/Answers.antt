@@ -19,19 +19,19 @@ nonzero_div-right c = gcd_some _ _ _ c.gcd_of_sizes-common.ensures c.divisor-rig
 pub returns-in_err-first : goal.returns-in_err-first
 returns-in_err-first c =
     let p = err_from_is_err_and c.from_residual.result c.from_residual.ensures.1 in
-    let parts = parts_are c.args.self.now c.args.other.now c.num.result _ c.divisor-left_den.result c.divisor-right_den.result c.gcd_of_sizes-common.result c.num.ensures.value refl c.divisor-left_den.ensures.value c.divisor-right_den.ensures.value c.gcd_of_sizes-common.ensures in
+    let parts = parts_are c.args.self.now c.args.other.now c.num.ensures.value refl c.divisor-left_den.ensures.value c.divisor-right_den.ensures.value c.gcd_of_sizes-common.ensures in
     refused c.from_residual.result _ _ p.0 p.1 (λ h. multiple_is_not c.num.result _ (c.divisor-right_den.result / c.gcd_of_sizes-common.result) c.num.type_inv parts.0 c.in_err-first.ensures h.first)
 
 pub returns-in_err-second : goal.returns-in_err-second
 returns-in_err-second c =
     let p = err_from_is_err_and c.from_residual-in_err-second.result c.from_residual-in_err-second.ensures.1 in
-    let parts = parts_are c.args.self.now c.args.other.now c.num.result c.num-2.result c.divisor-left_den.result c.divisor-right_den.result c.gcd_of_sizes-common.result c.num.ensures.value c.num-2.ensures.value c.divisor-left_den.ensures.value c.divisor-right_den.ensures.value c.gcd_of_sizes-common.ensures in
+    let parts = parts_are c.args.self.now c.args.other.now c.num.ensures.value c.num-2.ensures.value c.divisor-left_den.ensures.value c.divisor-right_den.ensures.value c.gcd_of_sizes-common.ensures in
     refused c.from_residual-in_err-second.result _ _ p.0 p.1 (λ h. multiple_is_not c.num-2.result _ (c.divisor-left_den.result / c.gcd_of_sizes-common.result) c.num-2.type_inv parts.1 c.in_err-second.ensures h.second)
 
 pub returns-in_err-num : goal.returns-in_err-num
 returns-in_err-num c =
     let p = err_from_is_err_and c.from_residual-in_err-num.result c.from_residual-in_err-num.ensures.1 in
-    let parts = parts_are c.args.self.now c.args.other.now c.num.result c.num-2.result c.divisor-left_den.result c.divisor-right_den.result c.gcd_of_sizes-common.result c.num.ensures.value c.num-2.ensures.value c.divisor-left_den.ensures.value c.divisor-right_den.ensures.value c.gcd_of_sizes-common.ensures in
+    let parts = parts_are c.args.self.now c.args.other.now c.num.ensures.value c.num-2.ensures.value c.divisor-left_den.ensures.value c.divisor-right_den.ensures.value c.gcd_of_sizes-common.ensures in
     let first = multiple_is c.num.result c.in_ok-first.first _ (c.divisor-right_den.result / c.gcd_of_sizes-common.result) c.num.type_inv parts.0 c.in_ok-first.ensures in
     let second = multiple_is c.num-2.result c.in_ok-second.second _ (c.divisor-left_den.result / c.gcd_of_sizes-common.result) c.num-2.type_inv parts.1 c.in_ok-second.ensures in
     refused c.from_residual-in_err-num.result _ _ p.0 p.1 (λ h. sum_is_wide c.in_ok-first.first c.in_ok-second.second _ _ first second c.in_err-num.ensures h.sum)
@@ -39,13 +39,13 @@ returns-in_err-num c =
 pub returns-in_err-den : goal.returns-in_err-den
 returns-in_err-den c =
     let p = err_from_is_err_and c.from_residual-in_err-den.result c.from_residual-in_err-den.ensures.1 in
-    let parts = parts_are c.args.self.now c.args.other.now c.num.result c.num-2.result c.divisor-left_den.result c.divisor-right_den.result c.gcd_of_sizes-common.result c.num.ensures.value c.num-2.ensures.value c.divisor-left_den.ensures.value c.divisor-right_den.ensures.value c.gcd_of_sizes-common.ensures in
+    let parts = parts_are c.args.self.now c.args.other.now c.num.ensures.value c.num-2.ensures.value c.divisor-left_den.ensures.value c.divisor-right_den.ensures.value c.gcd_of_sizes-common.ensures in
     refused c.from_residual-in_err-den.result _ _ p.0 p.1 (λ h. c.in_err-den.ensures (subst (λ k. k < 2 ^ 127) (sym parts.2) h.den))
 
 -- the four numbers fit, and make the sum
 made : (c : goal.In_ok-den) → SumInRange c.args.self.now c.args.other.now × IsNarrow c.in_ok-num.num × (0 < c.in_ok-den.den) × (frac c.in_ok-num.num c.in_ok-den.den ≡ c.args.self.now +ℚ c.args.other.now) × (gcd (nat_abs c.in_ok-num.num) c.in_ok-den.den ≡ gcd (nat_abs c.in_ok-num.num) c.gcd_of_sizes-common.result)
 made c =
-    let parts = parts_are c.args.self.now c.args.other.now c.num.result c.num-2.result c.divisor-left_den.result c.divisor-right_den.result c.gcd_of_sizes-common.result c.num.ensures.value c.num-2.ensures.value c.divisor-left_den.ensures.value c.divisor-right_den.ensures.value c.gcd_of_sizes-common.ensures in
+    let parts = parts_are c.args.self.now c.args.other.now c.num.ensures.value c.num-2.ensures.value c.divisor-left_den.ensures.value c.divisor-right_den.ensures.value c.gcd_of_sizes-common.ensures in
     let first = multiple_is c.num.result c.in_ok-first.first _ (c.divisor-right_den.result / c.gcd_of_sizes-common.result) c.num.type_inv parts.0 c.in_ok-first.ensures in
     let second = multiple_is c.num-2.result c.in_ok-second.second _ (c.divisor-left_den.result / c.gcd_of_sizes-common.result) c.num-2.type_inv parts.1 c.in_ok-second.ensures in
     let total = sum_is_narrow c.in_ok-first.first c.in_ok-second.second c.in_ok-num.num _ _ first second c.in_ok-num.ensures in

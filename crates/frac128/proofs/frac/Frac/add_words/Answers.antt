@@ -22,7 +22,7 @@ made c =
     let q = c.args.other.now in
     let fits : FitsSigned w128 c.num.result = record { sfits = c.num.type_inv } in
     let fits' : FitsSigned w128 c.num-2.result = record { sfits = c.num-2.type_inv } in
-    let parts = parts_are p q c.num.result c.num-2.result c.divisor-left_den.result c.divisor-right_den.result c.gcd_of_words-common.result c.num.ensures.value c.num-2.ensures.value c.divisor-left_den.ensures.value c.divisor-right_den.ensures.value c.gcd_of_words-common.ensures in
+    let parts = parts_are p q c.num.ensures.value c.num-2.ensures.value c.divisor-left_den.ensures.value c.divisor-right_den.ensures.value c.gcd_of_words-common.ensures in
     let first = simp to_z-of_z at c.word_multiple.ensures.value ∙ parts.0 in
     let second = simp to_z-of_z at c.word_multiple-2.ensures.value ∙ parts.1 in
     let total = ap₂ ◌+ℤ◌ first second in

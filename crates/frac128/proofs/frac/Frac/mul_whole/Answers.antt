@@ -11,14 +11,14 @@ use Rattle.frac128.proofs.frac.Frac.mul_whole.Goals as goal
 pub returns-in_err-size : goal.returns-in_err-size
 returns-in_err-size c =
     let e = err_from_is_err_and c.from_residual.result c.from_residual.ensures.1 in
-    let t = whole_product c.args.self.now c.args.other.now c.requires.left c.requires.right _ _ c.size.ensures.value c.size-2.ensures.value in
+    let t = whole_product c.args.self.now c.args.other.now c.requires.left c.requires.right c.size.ensures.value c.size-2.ensures.value in
     refused c.from_residual.result _ _ e.0 e.1 (λ h. c.in_err-size.ensures (subst (λ k. k < 2 ^ 127) t.2 h.num))
 
 -- what `of_terms` is called with
 made : (c : goal.After-signed) → InRange (c.args.self.now *ℚ c.args.other.now) × (IsReduced c.signed.result 1 × (frac c.signed.result 1 ≡ c.args.self.now *ℚ c.args.other.now))
 made c =
     let q = c.args.self.now *ℚ c.args.other.now in
-    let t = whole_product c.args.self.now c.args.other.now c.requires.left c.requires.right _ _ c.size.ensures.value c.size-2.ensures.value in
+    let t = whole_product c.args.self.now c.args.other.now c.requires.left c.requires.right c.size.ensures.value c.size-2.ensures.value in
     let one_small : 1 < 2 ^ 127 = omega arith in
     let narrow : InRange q = record { num = subst (λ k. k < 2 ^ 127) (sym t.2) c.in_ok-size.ensures.0; den = subst (λ k. k < 2 ^ 127) (sym t.1) one_small } in
     let negative_is : differ (int_lt c.args.self.now.num (pos 0)) (int_lt c.args.other.now.num (pos 0)) ≡ differ c.is_negative.result c.is_negative-2.result = ap₂ differ (sym c.is_negative.ensures) (sym c.is_negative-2.ensures) in

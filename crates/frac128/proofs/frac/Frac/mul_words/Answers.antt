@@ -27,7 +27,7 @@ signed-requires c =
 made : (c : goal.After-signed) → InRange (c.args.self.now *ℚ c.args.other.now) × (IsReduced c.signed.result (c.from-3.result * c.from-4.result) × (frac c.signed.result (c.from-3.result * c.from-4.result) ≡ c.args.self.now *ℚ c.args.other.now))
 made c =
     let q = c.args.self.now *ℚ c.args.other.now in
-    let t = product_is c.args.self.now c.args.other.now _ _ _ _ _ _ c.size-left_size.ensures.value c.size-right_size.ensures.value c.divisor-left_den.ensures.value c.divisor-right_den.ensures.value c.gcd_of_words-left.ensures c.gcd_of_words-right.ensures in
+    let t = product_is c.args.self.now c.args.other.now c.size-left_size.ensures.value c.size-right_size.ensures.value c.divisor-left_den.ensures.value c.divisor-right_den.ensures.value c.gcd_of_words-left.ensures c.gcd_of_words-right.ensures in
     let size_is = ap₂ ◌*◌ c.from.ensures c.from-2.ensures in
     let den_is = ap₂ ◌*◌ c.from-3.ensures c.from-4.ensures in
     let num_small = quotients_small _ _ c.gcd_of_words-left.result c.gcd_of_words-right.result (subst (λ k. k < 2 ^ 63) (sym c.size-left_size.ensures.value) c.requires.left.num) (subst (λ k. k < 2 ^ 63) (sym c.size-right_size.ensures.value) c.requires.right.num) in
