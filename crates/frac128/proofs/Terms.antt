@@ -22,10 +22,18 @@ terms_of {n} {d} h e =
     let t = frac-lowest n d h.positive h.lowest in
     (ap (λ r. r.num) (sym e) ∙ t.0, ap (λ r. r.den) (sym e) ∙ t.1)
 
--- the terms of a number in range are those of a `Frac`, which is that number
-pub made_of : (q : ℚ) {n : ℤ} {d : ℕ} → q.num ≡ n → q.den ≡ d → InRange q → IsReduced n d × (frac n d ≡ q)
-made_of q e f h =
-    (subst₂ IsReduced e f (record { positive = den_pos q; lowest = terms_lowest q; num_narrow = h.num; den_narrow = h.den }), subst₂ (λ n d. frac n d ≡ q) e f (frac-self q))
+-- n and d are the terms of q, which is in range: a `Frac` is made of them
+pub record Makes (q : ℚ) (n : ℤ) (d : ℕ) : Type 0 where
+  pub in_range : InRange q
+  pub reduced : IsReduced n d
+  pub value : frac n d ≡ q
+
+pub made_of : (q : ℚ) {n : ℤ} {d : ℕ} → q.num ≡ n → q.den ≡ d → InRange q → Makes q n d
+made_of q e f h = record {
+  in_range = h;
+  reduced = subst₂ IsReduced e f (record { positive = den_pos q; lowest = terms_lowest q; num_narrow = h.num; den_narrow = h.den });
+  value = subst₂ (λ n d. frac n d ≡ q) e f (frac-self q);
+}
 
 pub fits_from_narrow : (z : ℤ) → IsNarrow z → FitsSigned w128 z
 fits_from_narrow z h = fits_signed_from_abs w128 z h
@@ -65,7 +73,7 @@ frac_terms n zero some = absurd (omega arith)
 frac_terms n (suc d) some = (with_sign-int_div n _, refl)
 
 -- what `reduced` makes
-pub reduced_is : (n s : ℤ) (d size common : ℕ) → 0 < d → IsNarrow n → d < 2 ^ 127 → size ≡ nat_abs n → common ≡ gcd size d → s ≡ with_sign (int_lt n (pos 0)) (size / common) → IsReduced s (d / common) × (frac s (d / common) ≡ frac n d)
+pub reduced_is : (n s : ℤ) (d size common : ℕ) → 0 < d → IsNarrow n → d < 2 ^ 127 → size ≡ nat_abs n → common ≡ gcd size d → s ≡ with_sign (int_lt n (pos 0)) (size / common) → Makes (frac n d) s (d / common)
 reduced_is n s d size common some narrow small is_size is_common is =
     let q = frac n d in
     let g_is : common ≡ gcd (nat_abs n) d = is_common ∙ ap (λ k. gcd k d) is_size in
@@ -170,12 +178,12 @@ gcd_some m n g e h = subst (λ k. 0 < k) (sym e) (gcd_pos_right m n h)
 
 -- ---- a number with its sign changed, and one over a number
 
-pub neg_made : (q : ℚ) (n : ℤ) (d : ℕ) → n ≡ q.num → d ≡ q.den → nat_abs q.num < 2 ^ 127 → q.den < 2 ^ 127 → (IsReduced (pos 0 -ℤ n) d × (frac (pos 0 -ℤ n) d ≡ neg_ℚ q)) × IsNarrow (pos 0 -ℤ n)
+pub neg_made : (q : ℚ) (n : ℤ) (d : ℕ) → n ≡ q.num → d ≡ q.den → nat_abs q.num < 2 ^ 127 → q.den < 2 ^ 127 → Makes (neg_ℚ q) (pos 0 -ℤ n) d
 unfolding neg_ℚ
 neg_made q n d e f num den =
     let is : neg_ℤ q.num ≡ pos 0 -ℤ n = ap neg_ℤ (sym e) ∙ sym (zero_add (neg_ℤ n)) in
     let narrow : nat_abs (neg_ℤ q.num) < 2 ^ 127 = subst (λ k. k < 2 ^ 127) (sym (nat_abs-neg_ℤ q.num)) num in
-    (made_of (neg_ℚ q) is (sym f) (record { num = narrow; den = den }), subst IsNarrow is narrow)
+    made_of (neg_ℚ q) is (sym f) (record { num = narrow; den = den })
 
 inverse_terms : (n : ℤ) (d : ℕ) → n ≢ pos 0 → gcd (nat_abs n) d ≡ 1 → ((ratio (pos d) n).num ≡ with_sign (int_lt n (pos 0)) d) × ((ratio (pos d) n).den ≡ nat_abs n)
 unfolding ratio
@@ -186,7 +194,7 @@ inverse_terms (pos (suc n)) d ne one =
 inverse_terms (negsuc n) d ne one =
     frac-lowest (neg_ℤ (pos d)) (suc n) (omega arith) (ap (λ k. gcd k (suc n)) (nat_abs-neg d) ∙ gcd_comm d (suc n) ∙ one)
 
-pub inverse_made : (q : ℚ) (n s : ℤ) (d size : ℕ) → q.num ≢ pos 0 → n ≡ q.num → d ≡ q.den → nat_abs q.num < 2 ^ 127 → q.den < 2 ^ 127 → size ≡ nat_abs n → s ≡ with_sign (int_lt n (pos 0)) d → IsReduced s size × (frac s size ≡ inv_ℚ q)
+pub inverse_made : (q : ℚ) (n s : ℤ) (d size : ℕ) → q.num ≢ pos 0 → n ≡ q.num → d ≡ q.den → nat_abs q.num < 2 ^ 127 → q.den < 2 ^ 127 → size ≡ nat_abs n → s ≡ with_sign (int_lt n (pos 0)) d → Makes (inv_ℚ q) s size
 unfolding inv_ℚ
 inverse_made q n s d size ne e f num den is_size is =
     let t = inverse_terms q.num q.den ne (terms_lowest q) in

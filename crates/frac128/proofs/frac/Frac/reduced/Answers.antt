@@ -3,8 +3,7 @@ use Rattle.std.specs.Int.{w128}
 use Rattle.std.proofs.lemmas.Int.{to_z-of_z}
 use Rattle.exact_math.specs.Gcd.{gcd}
 use Rattle.exact_math.specs.Rational.{frac}
-use Rattle.frac128.specs.Range.{IsReduced}
-use Rattle.frac128.proofs.Terms.{gcd_some, reduced_is}
+use Rattle.frac128.proofs.Terms.{Makes, gcd_some, reduced_is}
 use Rattle.frac128.proofs.frac.Frac.reduced.Goals as goal
 use Rattle.frac128.proofs.frac.Frac.reduced.Goals.{After-gcd_of_sizes-again}
 
@@ -42,7 +41,7 @@ pub nonzero_div-den : goal.nonzero_div-den
 nonzero_div-den c = again_pos c.before.before
 
 -- what `of_terms` is called with
-made : (c : goal.After-signed) → IsReduced c.signed.result (c.args.den / c.gcd_of_sizes-again.result) × (frac c.signed.result (c.args.den / c.gcd_of_sizes-again.result) ≡ frac c.args.num c.args.den)
+made : (c : goal.After-signed) → Makes (frac c.args.num c.args.den) c.signed.result (c.args.den / c.gcd_of_sizes-again.result)
 made c =
     let fits : FitsSigned w128 c.args.num = c.ranges.num in
     reduced_is c.args.num c.signed.result c.args.den _ _ c.requires.positive c.requires.num_narrow c.requires.den_narrow (simp to_z-of_z at c.unsigned_abs-size.ensures.value) (again_is c.before.before) (simp to_z-of_z at c.signed.ensures)
@@ -50,9 +49,9 @@ made c =
 pub of_terms-requires-2 : goal.of_terms-requires-2
 of_terms-requires-2 c =
     let fits : FitsSigned w128 c.signed.result = record { sfits = c.signed.type_inv } in
-    simp to_z-of_z (made c).0
+    simp to_z-of_z (made c).reduced
 
 pub returns : goal.returns
 returns c =
     let fits : FitsSigned w128 c.signed.result = record { sfits = c.signed.type_inv } in
-    simp to_z-of_z at c.of_terms-2.ensures.value ∙ (made c.before).1
+    simp to_z-of_z at c.of_terms-2.ensures.value ∙ (made c.before).value
