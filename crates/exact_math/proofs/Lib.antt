@@ -11,3 +11,4 @@ pub mod RingExpressions
 pub mod RingSolver
 pub mod RingIdentities
 pub mod OrderedRing
+pub mod RationalTests
