@@ -12,3 +12,4 @@ pub mod RingSolver
 pub mod RingIdentities
 pub mod OrderedRing
 pub mod RationalTests
+pub mod LcmLaws
