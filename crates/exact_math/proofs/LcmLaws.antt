@@ -9,10 +9,12 @@ use Rattle.exact_math.specs.Rational.{ℚ, whole, frac, ◌*ℚ◌, IsWhole}
 use Rattle.exact_math.proofs.IntegerRing.{expand, linear}
 use Rattle.exact_math.proofs.RationalLaws.{den_pos, terms_lowest, frac-self, frac-mul, whole-frac, frac_is, frac-cross}
 
+-- the second number divides it
 pub dvd_lcm_right : (a b : ℕ) → b ∣ lcm a b
 unfolding lcm
 dvd_lcm_right a b = dvd-mul_left b (a / gcd a b)
 
+-- the first number divides it
 pub dvd_lcm_left : (a b : ℕ) → a ∣ lcm a b
 unfolding lcm
 dvd_lcm_left a b =
@@ -33,6 +35,7 @@ lcm_dvd a b m some p q =
     let in_k : a / g ∣ k = dvd_from_product (a / g) (b / g) k (gcd-quotients a b g_some) inner in
     subst (λ n. a / g * b ∣ n) (mul_comm k b ∙ is) (mul-dvd-mul_right (a / g) in_k b)
 
+-- it is above 0 where both numbers are
 pub lcm_pos : (a b : ℕ) → 0 < a → 0 < b → 0 < lcm a b
 unfolding lcm
 lcm_pos a b ha hb =
@@ -45,6 +48,7 @@ lcm_pos a b ha hb =
 
 -- ---- whole multiples
 
+-- a whole multiple as a fraction
 multiple_is : (m : ℕ) (q : ℚ) → whole (pos m) *ℚ q ≡ frac (pos m *ℤ q.num) q.den
 multiple_is m q =
     ap₂ ◌*ℚ◌ (whole-frac (pos m)) (sym (frac-self q)) ∙ frac-mul (pos m) q.num 1 q.den (omega arith) (den_pos q) ∙ ap (frac (pos m *ℤ q.num)) (one_times q.den)

@@ -23,6 +23,7 @@ low_zero n (suc k) h =
 gcd_two : (n : ℕ) → n % 2 ≡ 1 → gcd 2 n ≡ 1
 gcd_two n odd = gcd_comm 2 n ∙ gcd-mod n 2 ∙ ap (gcd 2) odd ∙ gcd-one 2
 
+-- the same for each power of 2
 gcd_power : (k n : ℕ) → n % 2 ≡ 1 → gcd (2 ^ k) n ≡ 1
 gcd_power zero n odd = gcd-one_left n
 gcd_power (suc k) n odd =
@@ -30,15 +31,18 @@ gcd_power (suc k) n odd =
 
 -- what is left of a number without its factors of 2
 module _ (w : Width) (n : ℕ) (some : 0 < n) (fits : n < 2 ^ bits w) where
+  -- it is odd
   pub odd_part : n / 2 ^ trailing_zeros w n % 2 ≡ 1
   odd_part = (bit_at-trailing_zeros w n some fits).1
 
+  -- with its factors of 2 it is the number
   pub split : 2 ^ trailing_zeros w n * (n / 2 ^ trailing_zeros w n) ≡ n
   split =
       let k = trailing_zeros w n in
       let low : n % 2 ^ k ≡ 0 = low_zero n k (bit_at-trailing_zeros w n some fits).2 in
       omega (arith, shr_split n k, low, mul_comm (2 ^ k) (n / 2 ^ k))
 
+  -- beside an odd number it has the same greatest common divisor
   pub gcd_odd_part : (m : ℕ) → m % 2 ≡ 1 → gcd (n / 2 ^ trailing_zeros w n) m ≡ gcd n m
   gcd_odd_part m odd =
       sym (gcd-strip (2 ^ trailing_zeros w n) (n / 2 ^ trailing_zeros w n) m (gcd_power _ m odd)) ∙ ap (λ k. gcd k m) split
@@ -52,15 +56,18 @@ apart x y ne = ⊎_elim
     (omega arith, ap₂ gcd is low ∙ gcd-sub x y (omega arith)))
     (cases_lt x y)
 
+-- a difference is below what both numbers are below
 below : (x y limit : ℕ) → x < limit → y < limit → abs_diff x y < limit
 below x y limit h k = grind (arith, nat_tests)
 
+-- the smaller of two odd numbers is odd
 min_odd : (x y : ℕ) → x % 2 ≡ 1 → y % 2 ≡ 1 → min x y % 2 ≡ 1
 min_odd x y h k = ⊎_elim
     (λ l. let low : min x y ≡ x = omega arith in ap (λ n. n % 2) low ∙ h)
     (λ l. let low : min x y ≡ y = omega arith in ap (λ n. n % 2) low ∙ k)
     (cases_lt x y)
 
+-- both numbers stay odd, and the greatest common divisor stays
 pub step_is : (w : Width) (x y rest low : ℕ) → x % 2 ≡ 1 → y % 2 ≡ 1 → x ≢ y → x < 2 ^ bits w → y < 2 ^ bits w → rest ≡ abs_diff x y → low ≡ min x y →
     (low % 2 ≡ 1) × (rest / 2 ^ trailing_zeros w rest % 2 ≡ 1) × (gcd low (rest / 2 ^ trailing_zeros w rest) ≡ gcd x y)
 step_is w x y rest low x_odd y_odd ne hx hy is_rest is_low =
@@ -79,11 +86,13 @@ module _ (m n : ℕ) (m_odd : m % 2 ≡ 1) (n_odd : n % 2 ≡ 1) where
       ap (λ x. gcd (2 ^ i * m) (x * n)) (pow-add 2 i k) ∙ ap (gcd (2 ^ i * m)) (mul_assoc (2 ^ i) (2 ^ k) n) ∙ gcd-mul_left (2 ^ i) m (2 ^ k * n)
       ∙ ap (λ g. 2 ^ i * g) (gcd_comm m (2 ^ k * n) ∙ gcd-strip (2 ^ k) n m (gcd_power k m m_odd) ∙ gcd_comm n m)
 
+  -- where the second number has fewer
   more : (j k : ℕ) → gcd (2 ^ (j + k) * m) (2 ^ j * n) ≡ 2 ^ j * gcd m n
   more j k =
       ap (λ x. gcd (x * m) (2 ^ j * n)) (pow-add 2 j k) ∙ ap (λ x. gcd x (2 ^ j * n)) (mul_assoc (2 ^ j) (2 ^ k) m) ∙ gcd-mul_left (2 ^ j) (2 ^ k * m) n
       ∙ ap (λ g. 2 ^ j * g) (gcd-strip (2 ^ k) m n (gcd_power k n n_odd))
 
+  -- the lesser power of 2 comes out
   powers : (i j : ℕ) → gcd (2 ^ i * m) (2 ^ j * n) ≡ gcd m n * 2 ^ min i j
   powers i j = ⊎_elim
       (λ h. let e : i + (j - i) ≡ j = omega arith in let low : min i j ≡ i = omega arith in
