@@ -12,6 +12,7 @@ use Rattle.frac128.proofs.Terms.{sum_is}
 use Rattle.exact_math.specs.GcdLaws.{gcd_comm, gcd-strip, gcd_dvd_left, gcd_dvd_right, gcd-one_from_dvd, gcd-quotients, gcd_pos_right, gcd-mul-div_right, one_from_dvd, dvd_from_product, quotient_dvd, nat_abs-neg_ℤ}
 use Rattle.exact_math.proofs.IntegerRing.{linear, add_comm}
 
+-- what divides two numbers divides their sum
 dvd_abs_add : (g : ℕ) (x y : ℤ) → g ∣ nat_abs x → g ∣ nat_abs y → g ∣ nat_abs (x +ℤ y)
 dvd_abs_add g (pos a) (pos b) h k = dvd-add g h k
 dvd_abs_add g (pos a) (negsuc b) h k =
@@ -42,6 +43,7 @@ apart x y l r p q =
     one_from_dvd r l g q (dvd_from_product g (nat_abs x) r from_x in_first) in_l
 
 module _ (a c : ℤ) (b d : ℕ) (a_lowest : gcd (nat_abs a) b ≡ 1) (c_lowest : gcd (nat_abs c) d ≡ 1) (d_some : 0 < d) where
+  -- the sum and the least common denominator have no more in common than the sum and the divisor of the denominators
   pub sum_gcd : gcd (nat_abs (a *ℤ pos (d / gcd b d) +ℤ c *ℤ pos (b / gcd b d))) (b / gcd b d * d) ≡ gcd (nat_abs (a *ℤ pos (d / gcd b d) +ℤ c *ℤ pos (b / gcd b d))) (gcd b d)
   sum_gcd =
       let e = gcd b d in
@@ -71,6 +73,7 @@ pub record MakesSum (p q : ℚ) (n : ℤ) (d common : ℕ) : Type 0 where
   pub value : frac n d ≡ p +ℚ q
 
 module _ (p q : ℚ) {x y : ℤ} {d common : ℕ} where
+  -- the parts of the sum, each as the code computes it
   pub makes_sum : x ≡ p.num *ℤ pos (q.den / gcd p.den q.den) → y ≡ q.num *ℤ pos (p.den / gcd p.den q.den) → d ≡ p.den / gcd p.den q.den * q.den → common ≡ gcd p.den q.den →
       IsNarrow x → IsNarrow y → IsNarrow (x +ℤ y) → d < 2 ^ 127 → MakesSum p q (x +ℤ y) d common
   makes_sum is_x is_y is_d is_common x_narrow y_narrow narrow small =

@@ -8,7 +8,7 @@ use Rattle.frac128.proofs.euclid.gcd_of_odd.Goals as goal
 pub loop-x-preserved : goal.loop-x-preserved
 loop-x-preserved c =
     let i = c.loop-x.invariant in
-    let s = step_is c.loop-x.x c.loop-x.y _ _ i.x_odd i.y_odd c.loop-x-test.true i.x_fits i.y_fits c.abs_diff-rest.ensures c.min-x.ensures in
+    let s = step_is w64 c.loop-x.x c.loop-x.y _ _ i.x_odd i.y_odd c.loop-x-test.true i.x_fits i.y_fits c.abs_diff-rest.ensures c.min-x.ensures in
     record {
       x_odd = s.0;
       y_odd = s.1;

@@ -1,8 +1,8 @@
 use Rattle.std.proofs.Common.{◌≡◌, sym, ap, ◌∙◌}
 use Rattle.exact_math.specs.Gcd.{gcd}
 use Rattle.exact_math.specs.GcdLaws.{gcd-mod, gcd-zero, gcd-one, gcd_comm}
-use Rattle.frac128.proofs.euclid.gcd_of_sizes.Goals as goal
-use Rattle.frac128.proofs.euclid.gcd_of_sizes.Goals.{then-high-ge-WORD, else-high-ge-WORD}
+use Rattle.frac128.proofs.euclid.gcd_by_division.Goals as goal
+use Rattle.frac128.proofs.euclid.gcd_by_division.Goals.{then-high-ge-WORD, else-high-ge-WORD}
 
 pub loop-low-preserved : goal.loop-low-preserved
 loop-low-preserved c = sym (gcd-mod c.loop-low.high c.loop-low.low) ∙ c.loop-low.invariant
