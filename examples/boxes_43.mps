@@ -1,0 +1,14 @@
+NAME boxes of 6, 9 and 20 that make 43 together
+ROWS
+ E total
+COLUMNS
+ six total 6
+ nine total 9
+ twenty total 20
+RHS
+ total 43
+BOUNDS
+ UI six 100
+ UI nine 100
+ UI twenty 100
+ENDATA
