@@ -1,20 +1,19 @@
 -- From what the parts of a run answer to what the run answers.
-use Rattle.std.proofs.Common.{◌≡◌, ◌⊎◌, ⊎_elim, inl, inr, ◌≤◌, ℕ, ℤ, List, [], ◌∷◌, ◌++◌, length, take, drop, Bool, true, false, cond, Option, Some, None, refl, sym, ap, subst, ◌∙◌, arith}
+use Rattle.std.proofs.Common.{◌≡◌, ◌⊎◌, ⊎_elim, inl, inr, ◌≤◌, ℕ, ℤ, List, Option, Some, None, sym, ap, subst, ◌∙◌}
 use Rattle.std.specs.Prelude.{option_map, IfSome}
-use Rattle.std.proofs.lemmas.Option.{same_Some, none-some, IfSome_then}
-use Rattle.desk_io.specs.Desk.{Fault, fault, appended, AppendsSome, Same, SameButAt, Rose}
-use Rattle.desk_io.specs.declared.desk.Call.TheVariants.{Take, Say}
+use Rattle.std.proofs.lemmas.Option.{same_Some, none-some}
+use Rattle.desk_io.specs.Desk.{fault, appended, AppendsSome, Same}
 use Rattle.desk_io.proofs.Appended.{appends_all}
 use Rattle.desk_io.proofs.Faults.{rose_after}
 use Rattle.int_model.specs.declared.model.Model.{Model}
-use Rattle.int_model.specs.Points.{IsPoint, IsBest, value_at}
+use Rattle.int_model.specs.Points.{IsPoint}
 use Rattle.first_form.specs.Stated.{stated}
 use Rattle.solve_cli.specs.declared.status.Status.{Status}
 use Rattle.solve_cli.specs.declared.status.Status.TheVariants.{Optimal, Infeasible, Words, Text, ReadFault, WriteFault, NoMemory}
 use Rattle.solve_cli.specs.Words.{Solve, command_of}
 use Rattle.solve_cli.specs.Report.{text_of}
-use Rattle.solve_cli.specs.Answer.{Given, Faults, States, Reason, SaysAll, SaysSome, Answer, IsJudged, TakesInput, Decides, IsComplete}
-use Rattle.solve_cli.specs.Solving.{Solves, IsSaid}
+use Rattle.solve_cli.specs.Answer.{Given, Faults, States, Reason, SaysSome, Answer, IsJudged, TakesInput, IsComplete}
+use Rattle.solve_cli.specs.Solving.{IsSaid}
 
 -- ---- the answer
 

@@ -1,13 +1,12 @@
 -- What solving the taken bytes says of the text that was left.
-use Rattle.std.proofs.Common.{◌≡◌, ◌⊎◌, ⊎_elim, lit<, ◌<◌, ◌≤◌, ℕ, ℤ, pos, ◌+ℤ◌, ◌≤ℤ◌, List, [], ◌∷◌, length, take, Bool, true, false, cond, ◌&&◌, leb, Option, Some, None, refl, sym, ap, subst, ◌∙◌, arith}
+use Rattle.std.proofs.Common.{◌≡◌, ⊎_elim, lit<, ◌<◌, ◌≤◌, ℕ, ℤ, pos, ◌+ℤ◌, List, [], length, take, cond, ◌&&◌, Option, Some, None, refl, sym, ap, subst, ◌∙◌, arith}
 use Rattle.std.specs.Int.Signed.{≤ℤ_refl}
 use Rattle.std.specs.Prelude.{IfSome, IfOk, Result, Ok, Err, ◌==◌}
 use Rattle.std.specs.List.{list_all}
 use Rattle.std.proofs.lemmas.Bool.{cases_lt}
 use Rattle.std.proofs.lemmas.Bool.Decides.{leb_tells}
 use Rattle.std.proofs.lemmas.List.{take_all, length-take-le}
-use Rattle.std.proofs.lemmas.Option.{same_Some, none-some}
-use Rattle.desk_io.specs.Desk.{Fault}
+use Rattle.std.proofs.lemmas.Option.{same_Some}
 use Rattle.int_model.specs.declared.model.Model.{Model}
 use Rattle.int_model.specs.Points.{IsPoint, IsBest, value_of, value_at}
 use Rattle.first_form.proofs.SizeLaws.{bind_some, cond_then}

@@ -4,7 +4,6 @@ use Rattle.std.specs.Fmt.{signed_decimal}
 use Rattle.int_model.specs.declared.model.Column.{Column}
 use Rattle.solve_cli.specs.declared.status.FaultKind.{FaultKind}
 use Rattle.solve_cli.specs.declared.status.FaultKind.TheVariants.{Unbuilt}
-use Rattle.solve_cli.specs.declared.status.TextFault.{TextFault}
 use Rattle.solve_cli.specs.declared.status.Status.{Status}
 use Rattle.solve_cli.specs.declared.status.Status.TheVariants.{Optimal, Infeasible, Words, Text, ReadFault, WriteFault, NoMemory}
 

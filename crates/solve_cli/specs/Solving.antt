@@ -1,6 +1,6 @@
 -- What the parts of a run answer.
-use Rattle.std.specs.Prelude.{◌≡◌, ◌⊎◌, ℕ, List, [], ◌∷◌, ◌≤◌, ◌^◌, ◌-◌, ℤ, Option, Some, None, option_map}
-use Rattle.desk_io.specs.Desk.{Fault, fault, appended, AppendsSome, Rose}
+use Rattle.std.specs.Prelude.{◌≡◌, ◌⊎◌, ℕ, List, [], ◌∷◌, ◌≤◌, ℤ, Option, Some, None, option_map}
+use Rattle.desk_io.specs.Desk.{fault, appended, AppendsSome, Rose}
 use Rattle.desk_io.specs.declared.desk.Call.TheVariants.{Say}
 use Rattle.int_model.specs.declared.model.Model.{Model}
 use Rattle.int_model.specs.Points.{IsPoint, IsBest, value_at}

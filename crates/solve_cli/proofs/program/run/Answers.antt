@@ -1,7 +1,5 @@
-use Rattle.std.proofs.Common.{◌≡◌, [], ◌∷◌, map, refl, sym, ◌∙◌}
-use Rattle.std.specs.Prelude.{string_bytes}
+use Rattle.std.proofs.Common.{[], ◌∷◌, refl, ◌∙◌}
 use Rattle.solve_cli.specs.declared.status.Status.TheVariants.{NoMemory}
-use Rattle.solve_cli.specs.Answer.{Given, Faults}
 use Rattle.solve_cli.specs.Report.{line_of}
 use Rattle.solve_cli.proofs.AnswerLaws.{run_answers, takes_said, completes}
 use Rattle.solve_cli.proofs.program.run.Goals as goal

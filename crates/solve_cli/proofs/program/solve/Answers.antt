@@ -1,9 +1,9 @@
-use Rattle.std.proofs.Common.{[], ◌∷◌, refl, sym, ap, subst, ◌∙◌, SFits, rules, to_z-of_z}
+use Rattle.std.proofs.Common.{[], ◌∷◌, refl, ap, subst, ◌∙◌, SFits, rules, to_z-of_z}
 use Rattle.std.proofs.lemmas.Option.{MatchOption-at_some, MatchOption-at_none}
 use Rattle.first_form.specs.Stop.{Refuses}
 use Rattle.first_form.specs.Stated.{stated}
 use Rattle.int_model.specs.Points.{value_at}
-use Rattle.solve_cli.specs.declared.status.Status.TheVariants.{Infeasible, Text}
+use Rattle.solve_cli.specs.declared.status.Status.TheVariants.{Infeasible}
 use Rattle.solve_cli.specs.Report.{text_of, line_of, optimal_lines}
 use Rattle.solve_cli.proofs.SolveLaws.{solved_by, stated_best, stated_constant}
 use Rattle.solve_cli.proofs.program.solve.Goals as goal
