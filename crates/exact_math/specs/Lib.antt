@@ -1,4 +1,9 @@
 pub mod IntegerLaws
 pub mod Ring
+pub mod Gcd
+pub mod GcdLaws
+pub mod Quotient
+pub mod Rational
+pub mod RationalCode
 pub mod Determinants
 pub mod Ordered

@@ -1,0 +1,4 @@
+pub mod Terms
+pub mod Comparisons
+pub mod BinaryGcd
+pub mod Lowering

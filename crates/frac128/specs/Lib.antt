@@ -1,0 +1,3 @@
+pub mod Range
+pub mod Sign
+pub mod Order

@@ -1,0 +1,201 @@
+//! The type `Frac`.
+ghost use Rattle.std.specs.Prelude.{◌≡◌, ◌≢◌, ◌^◌, ◌<◌, ◌↔◌, pos, nat_abs, OkIff, IsTrue, int_lt};
+ghost use Rattle.exact_math.specs.Gcd.{gcd as gcd_of};
+ghost use Rattle.exact_math.specs.Rational.{frac, ratio, ◌+ℚ◌, ◌-ℚ◌, ◌*ℚ◌, ◌/ℚ◌, neg_ℚ, inv_ℚ, floor, ceil, IsWhole};
+ghost use Rattle.frac128.specs.Range.{InRange, SumInRange, ProductInRange, IsReduced, IsNarrow};
+
+use crate::euclid::gcd_of_sizes;
+use crate::narrow::{LIMIT, Wide, multiple, product, signed, sum};
+use std::marker::Model;
+
+/// A fraction in lowest terms, both of whose numbers are at most 2^127 - 1 in size. Contracts see it as a rational number.
+#[derive(Clone, Copy, Debug)]
+pub struct Frac {
+    num: i128,
+    den: u128,
+}
+
+impl Model for Frac {
+    ghost use Rattle.std.proofs.Common.{ap₂};
+    ghost use Rattle.exact_math.specs.Rational.{ℚ, frac};
+    ghost use Rattle.exact_math.specs.RationalCode.{rational_code, frac-lowest};
+    ghost use Rattle.frac128.specs.Range.{IsReduced};
+
+    ghost Value = { ℚ };
+
+    ghost coded = { rational_code };
+
+    ghost view = { λ s. frac s.num s.den };
+
+    ghost invariant = { λ s. IsReduced s.num s.den };
+
+    ghost inverse = { λ q. record { num = q.num; den = q.den } };
+
+    ghost inverse_ok = { λ a h. let t = frac-lowest a.num a.den h.positive h.lowest in ap₂ (λ n d. record { num = n; den = d }) t.0 t.1 };
+}
+
+impl Frac {
+    /// num/den in lowest terms; the sign of `den` goes to the numerator.
+    pub fn new(num: i128, den: i128) -> Result<Frac, Wide>
+        requires { den ≢ pos 0 }
+        ensures { OkIff result (InRange (ratio num den)) (ratio num den) }
+    {
+        let size = num.unsigned_abs();
+        let divisor = den.unsigned_abs();
+        let common = gcd_of_sizes(size, divisor);
+        let size = size / common;
+        let divisor = divisor / common;
+        if size >= LIMIT || divisor >= LIMIT {
+            return Err(Wide);
+        }
+        Ok(Frac::of_terms(signed((num < 0) != (den < 0), size), divisor))
+    }
+
+    /// The numerator, which has the fraction's sign.
+    pub fn num(&self) -> i128
+        ensures value { result ≡ self.now.num }
+        ensures narrow { nat_abs self.now.num < 2 ^ 127 }
+    {
+        self.num
+    }
+
+    /// The denominator, which is above 0.
+    pub fn den(&self) -> i128
+        ensures value { result ≡ pos self.now.den }
+        ensures positive { 0 < self.now.den }
+        ensures narrow { self.now.den < 2 ^ 127 }
+    {
+        self.den as i128
+    }
+
+    // The denominator as a size.
+    pub(crate) fn divisor(&self) -> u128
+        ensures value { result ≡ self.now.den }
+        ensures positive { 0 < result }
+        ensures narrow { result < 2 ^ 127 }
+    {
+        self.den
+    }
+
+    // The size of the numerator.
+    pub(crate) fn size(&self) -> u128
+        ensures value { result ≡ nat_abs self.now.num }
+        ensures narrow { result < 2 ^ 127 }
+    {
+        self.num.unsigned_abs()
+    }
+
+    // Whether the fraction is below 0.
+    pub(crate) fn is_negative(&self) -> bool
+        ensures { result ≡ int_lt self.now.num (pos 0) }
+    {
+        self.num < 0
+    }
+
+    // The fraction with these terms.
+    fn of_terms(num: i128, den: u128) -> Frac
+        requires { IsReduced num den }
+        ensures value { result ≡ frac num den }
+        ensures num { result.num ≡ num }
+        ensures den { result.den ≡ den }
+    {
+        Frac { num, den }
+    }
+
+    // The fraction num/den, where `common` has each divisor that the two terms have in common.
+    fn reduced(num: i128, den: u128, common: u128) -> Frac
+        requires positive { 0 < den }
+        requires num_narrow { IsNarrow num }
+        requires den_narrow { den < 2 ^ 127 }
+        requires common_divisors { gcd_of (nat_abs num) den ≡ gcd_of (nat_abs num) common }
+        ensures { result ≡ frac num den }
+    {
+        let size = num.unsigned_abs();
+        let again = gcd_of_sizes(size, common);
+        Frac::of_terms(signed(num < 0, size / again), den / again)
+    }
+
+    /// The sum; `Wide` where a product or sum on the way to it is too large, as `SumInRange` says.
+    pub fn add(&self, other: &Frac) -> Result<Frac, Wide>
+        ensures { OkIff result (SumInRange self.now other.now) (self.now +ℚ other.now) }
+    {
+        let left_den = self.divisor();
+        let right_den = other.divisor();
+        let common = gcd_of_sizes(left_den, right_den);
+        let left = left_den / common;
+        let right = right_den / common;
+        let first = multiple(self.num(), right)?;
+        let second = multiple(other.num(), left)?;
+        let num = sum(first, second)?;
+        let den = product(left, right_den)?;
+        Ok(Frac::reduced(num, den, common))
+    }
+
+    /// The difference, that is the sum with the negated number.
+    pub fn sub(&self, other: &Frac) -> Result<Frac, Wide>
+        ensures { OkIff result (SumInRange self.now (neg_ℚ other.now)) (self.now -ℚ other.now) }
+    {
+        self.add(&other.neg())
+    }
+
+    /// The product. Common factors are divided out first, so that `Wide` depends on the result alone.
+    pub fn mul(&self, other: &Frac) -> Result<Frac, Wide>
+        ensures { OkIff result (ProductInRange self.now other.now) (self.now *ℚ other.now) }
+    {
+        let left_size = self.size();
+        let left_den = self.divisor();
+        let right_size = other.size();
+        let right_den = other.divisor();
+        let left = gcd_of_sizes(left_size, right_den);
+        let right = gcd_of_sizes(right_size, left_den);
+        let size = product(left_size / left, right_size / right)?;
+        let den = product(left_den / right, right_den / left)?;
+        let negative = self.is_negative() != other.is_negative();
+        Ok(Frac::of_terms(signed(negative, size), den))
+    }
+
+    /// The quotient by a fraction that is not 0.
+    pub fn div(&self, other: &Frac) -> Result<Frac, Wide>
+        requires { other.now.num ≢ pos 0 }
+        ensures { OkIff result (InRange (self.now /ℚ other.now)) (self.now /ℚ other.now) }
+    {
+        self.mul(&other.inverse())
+    }
+
+    // One over the fraction.
+    fn inverse(&self) -> Frac
+        requires { self.now.num ≢ pos 0 }
+        ensures { result ≡ inv_ℚ self.now }
+    {
+        let num = self.num();
+        Frac::of_terms(signed(num < 0, self.divisor()), num.unsigned_abs())
+    }
+
+    /// The fraction with its sign changed.
+    pub fn neg(&self) -> Frac
+        ensures { result ≡ neg_ℚ self.now }
+    {
+        Frac::of_terms(-self.num(), self.divisor())
+    }
+
+    /// The greatest whole number that is at most the fraction.
+    pub fn floor(&self) -> i128
+        ensures { result ≡ floor self.now }
+    {
+        self.num().div_euclid(self.den())
+    }
+
+    /// The least whole number that is at least the fraction.
+    pub fn ceil(&self) -> i128
+        ensures { result ≡ ceil self.now }
+    {
+        -(-self.num()).div_euclid(self.den())
+    }
+
+    /// Whether the fraction is a whole number.
+    pub fn is_integer(&self) -> bool
+        ensures { IsTrue result ↔ IsWhole self.now }
+    {
+        self.divisor() == 1
+    }
+}

@@ -1,0 +1,46 @@
+//! Whole numbers of at most 2^127 - 1 in size.
+ghost use Rattle.std.specs.Prelude.{◌≡◌, ◌^◌, ◌<◌, ◌*◌, pos, nat_abs, ◌+ℤ◌, ◌*ℤ◌, OkIff};
+ghost use Rattle.frac128.specs.Range.{IsNarrow};
+ghost use Rattle.frac128.specs.Sign.{with_sign};
+
+/// The exact result leaves the range of `Frac`.
+#[derive(Clone, Copy, Debug, PartialEq, Eq)]
+pub struct Wide;
+
+// One more than the greatest size.
+pub(crate) const LIMIT: u128 = 1 << 127;
+
+pub(crate) fn signed(negative: bool, size: u128) -> i128
+    requires { size < 2 ^ 127 }
+    ensures { result ≡ with_sign negative size }
+{
+    let number = size as i128;
+    if negative { -number } else { number }
+}
+
+pub(crate) fn product(x: u128, y: u128) -> Result<u128, Wide>
+    ensures { OkIff result (x * y < 2 ^ 127) (x * y) }
+{
+    match x.checked_mul(y) {
+        Some(z) if z < LIMIT => Ok(z),
+        _ => Err(Wide),
+    }
+}
+
+// A number times a factor without a sign.
+pub(crate) fn multiple(number: i128, factor: u128) -> Result<i128, Wide>
+    requires { IsNarrow number }
+    ensures { OkIff result (IsNarrow (number *ℤ pos factor)) (number *ℤ pos factor) }
+{
+    let size = product(number.unsigned_abs(), factor)?;
+    Ok(signed(number < 0, size))
+}
+
+pub(crate) fn sum(x: i128, y: i128) -> Result<i128, Wide>
+    ensures { OkIff result (IsNarrow (x +ℤ y)) (x +ℤ y) }
+{
+    match x.checked_add(y) {
+        Some(z) if z != i128::MIN => Ok(z),
+        _ => Err(Wide),
+    }
+}
