@@ -1,0 +1,5 @@
+pub mod Lines
+pub mod FreeFields
+pub mod FixedFields
+pub mod Decimal
+pub mod Reading

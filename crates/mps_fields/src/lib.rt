@@ -1,0 +1,7 @@
+//! The customary MPS formats: the lines of a text, the fields of a line in free and fixed form, and exact decimal numbers.
+#![tactic(auto)]
+
+mod examples;
+mod number;
+
+pub use number::NumberFault;
