@@ -1,5 +1,5 @@
 -- Tests that hold or fail.
-use Rattle.std.proofs.Common.{◌≡◌, Bool, true, false, ◌&&◌, ◌||◌, true≢false, refl, sym}
+use Rattle.std.proofs.Common.{◌≡◌, ℕ, zero, suc, ◌<◌, eqb, arith, Bool, true, false, ◌&&◌, ◌||◌, true≢false, refl, sym}
 
 -- a test holds or fails
 pub either : {P : Type 0} (b : Bool) → (b ≡ true → P) → (b ≡ false → P) → P
@@ -21,3 +21,7 @@ neither true b h = absurd (true≢false h)
 pub some_of : {P : Type 0} (a b : Bool) → (a || b) ≡ true → (a ≡ true → P) → (b ≡ true → P) → P
 some_of true b h f g = f refl
 some_of false b h f g = g h
+
+pub above_zero : (n : ℕ) → eqb n 0 ≡ false → 0 < n
+above_zero zero e = absurd (true≢false e)
+above_zero (suc n) e = omega arith

@@ -86,7 +86,6 @@ list_all-append p (x ∷ xs) ys h =
 -- ---- the sign
 
 sign_of-text : (s : Sign) (text : List ℕ) → Ends is_sign text → sign_of (sign_text s ++ text) ≡ s
-unfolding sign_of
 sign_of-text unsigned [] ends = refl
 sign_of-text unsigned (byte ∷ bytes) ends =
     let no = neither (eqb byte 43) (eqb byte 45) ends in
@@ -95,14 +94,12 @@ sign_of-text plus text ends = refl
 sign_of-text minus text ends = refl
 
 after_sign-text : (s : Sign) (text : List ℕ) → Ends is_sign text → after_sign (sign_text s ++ text) ≡ text
-unfolding after_sign
 after_sign-text unsigned [] ends = refl
 after_sign-text unsigned (byte ∷ bytes) ends = ap (λ t. cond t bytes (byte ∷ bytes)) ends
 after_sign-text plus text ends = refl
 after_sign-text minus text ends = refl
 
 sign-whole : (text : List ℕ) → sign_text (sign_of text) ++ after_sign text ≡ text
-unfolding sign_of after_sign
 sign-whole [] = refl
 sign-whole (byte ∷ bytes) =
     either (eqb byte 43)
@@ -123,7 +120,6 @@ digits_no_sign [] h = tt
 digits_no_sign (byte ∷ bytes) h = digit_no_sign byte (both_true (is_digit byte) (list_all is_digit bytes) h).0
 
 exponent_of-text : (x : Option Exponent) → is_exponent x ≡ true → exponent_of (exponent_text x) ≡ Some x
-unfolding exponent_of
 exponent_of-text None h = refl
 exponent_of-text (Some x) h =
     let both = both_true (is_exponent_letter x.letter) (is_digits x.digits) h in
@@ -131,7 +127,6 @@ exponent_of-text (Some x) h =
     rw (sign_of-text x.sign x.digits ends, after_sign-text x.sign x.digits ends, both.0, both.1) refl
 
 exponent_is : (text : List ℕ) (x : Option Exponent) → exponent_of text ≡ Some x → (exponent_text x ≡ text) × (is_exponent x ≡ true)
-unfolding exponent_of
 exponent_is [] x h = subst (λ y. (exponent_text y ≡ []) × (is_exponent y ≡ true)) (same_Some None x h) (refl, refl)
 exponent_is (letter ∷ text) x h =
     let found : Option Exponent = Some (record { letter = letter; sign = sign_of text; digits = after_sign text }) in
@@ -142,19 +137,16 @@ exponent_is (letter ∷ text) x h =
 -- ---- the fraction
 
 fraction_of-text : (f : Option (List ℕ)) (x : Option Exponent) → list_all is_digit (fraction_digits f) ≡ true → is_exponent x ≡ true → fraction_of (fraction_text f ++ exponent_text x) ≡ f
-unfolding fraction_of
 fraction_of-text None None all h = refl
 fraction_of-text None (Some x) all h = ap (λ t. cond t (Some (front_digits (sign_text x.sign ++ x.digits))) None) (exponent_text-ends (λ b. eqb b 46) refl refl refl refl (Some x) h)
 fraction_of-text (Some digits) x all h = ap Some (front_digits-append digits (exponent_text x) all (exponent_text-ends is_digit refl refl refl refl x h))
 
 after_fraction-text : (f : Option (List ℕ)) (x : Option Exponent) → list_all is_digit (fraction_digits f) ≡ true → is_exponent x ≡ true → after_fraction (fraction_text f ++ exponent_text x) ≡ exponent_text x
-unfolding after_fraction
 after_fraction-text None None all h = refl
 after_fraction-text None (Some x) all h = ap (λ t. cond t (after_digits (sign_text x.sign ++ x.digits)) (exponent_text (Some x))) (exponent_text-ends (λ b. eqb b 46) refl refl refl refl (Some x) h)
 after_fraction-text (Some digits) x all h = after_digits-append digits (exponent_text x) all (exponent_text-ends is_digit refl refl refl refl x h)
 
 fraction-whole : (text : List ℕ) → fraction_text (fraction_of text) ++ after_fraction text ≡ text
-unfolding fraction_of after_fraction
 fraction-whole [] = refl
 fraction-whole (byte ∷ bytes) =
     either (eqb byte 46)

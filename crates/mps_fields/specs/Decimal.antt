@@ -109,9 +109,12 @@ abbrev pub fits_scaled : ℤ → ℤ → Bool
 fits_scaled m (pos k) = nat_lt (nat_abs m * 10 ^ k) (2 ^ 127)
 fits_scaled m (negsuc k) = nat_lt (nat_abs m) (2 ^ 127) && nat_le (suc k) 38
 
--- a number fits where M is 0, whatever its exponent, or where M and e say so
+-- m * 10^e fits where m is 0, whatever e, or where m and e say so
+abbrev pub fits_product : ℤ → ℤ → Bool
+fits_product m e = (nat_abs m == 0) || fits_scaled m e
+
 abbrev pub fits : Decimal → Bool
-fits d = (nat_abs (mantissa d) == 0) || fits_scaled (mantissa d) (power d)
+fits d = fits_product (mantissa d) (power d)
 
 abbrev pub Fits : Decimal → Type 0
 Fits d = IsTrue (fits d)

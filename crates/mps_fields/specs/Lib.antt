@@ -3,3 +3,4 @@ pub mod FreeFields
 pub mod FixedFields
 pub mod Decimal
 pub mod Reading
+pub mod Parts

@@ -2,16 +2,16 @@
 use Rattle.std.specs.Prelude.{ℕ, ◌&&◌, ◌||◌, ◌==◌, if◌then◌else◌, List, [], ◌∷◌, ◌++◌, take, drop, Option, Some, None, Result, Ok, Err}
 use Rattle.std.specs.List.{prefix_len}
 use Rattle.exact_math.specs.Rational.{ℚ}
-use Rattle.mps_fields.specs.declared.number.NumberFault.{NumberFault}
-use Rattle.mps_fields.specs.declared.number.NumberFault.TheVariants.{NotNumber, WideNumber}
+use Rattle.mps_fields.specs.declared.numbers.NumberFault.{NumberFault}
+use Rattle.mps_fields.specs.declared.numbers.NumberFault.TheVariants.{NotNumber, WideNumber}
 use Rattle.mps_fields.specs.Decimal.{Sign, unsigned, plus, minus, Exponent, Decimal, is_digit, is_digits, is_exponent_letter, fraction_digits, fits, means_number}
 
 -- the sign in front of a text, and the text behind it
-unfoldable pub sign_of : List ℕ → Sign
+abbrev pub sign_of : List ℕ → Sign
 sign_of [] = unsigned
 sign_of (byte ∷ bytes) = if byte == 43 then plus else (if byte == 45 then minus else unsigned)
 
-unfoldable pub after_sign : List ℕ → List ℕ
+abbrev pub after_sign : List ℕ → List ℕ
 after_sign [] = []
 after_sign (byte ∷ bytes) = if (byte == 43) || (byte == 45) then bytes else byte ∷ bytes
 
@@ -23,16 +23,16 @@ abbrev pub after_digits : List ℕ → List ℕ
 after_digits text = drop (prefix_len is_digit text) text
 
 -- the digits behind a point in front of a text, and the text behind them
-unfoldable pub fraction_of : List ℕ → Option (List ℕ)
+abbrev pub fraction_of : List ℕ → Option (List ℕ)
 fraction_of [] = None
 fraction_of (byte ∷ bytes) = if byte == 46 then Some (front_digits bytes) else None
 
-unfoldable pub after_fraction : List ℕ → List ℕ
+abbrev pub after_fraction : List ℕ → List ℕ
 after_fraction [] = []
 after_fraction (byte ∷ bytes) = if byte == 46 then after_digits bytes else byte ∷ bytes
 
 -- the exponent that is all of a text, and none for no text; no answer where the text is something else
-unfoldable pub exponent_of : List ℕ → Option (Option Exponent)
+abbrev pub exponent_of : List ℕ → Option (Option Exponent)
 exponent_of [] = Some None
 exponent_of (letter ∷ text) =
     if is_exponent_letter letter && is_digits (after_sign text) then Some (Some (record { letter = letter; sign = sign_of text; digits = after_sign text })) else None

@@ -6,7 +6,7 @@ ghost use Rattle.mps_fields.specs.FreeFields.{free_fields};
 ghost use Rattle.mps_fields.specs.FixedFields.{fixed_fields, is_in_columns};
 ghost use Rattle.mps_fields.specs.Decimal.{Decimal, Spells};
 ghost use Rattle.mps_fields.specs.Reading.{number_of, decimal_of};
-ghost use Rattle.mps_fields.specs.declared.number.NumberFault.TheVariants.{NotNumber, WideNumber};
+ghost use Rattle.mps_fields.specs.declared.numbers.NumberFault.TheVariants.{NotNumber, WideNumber};
 
 /// Texts that are numbers, and texts that are none.
 pub fn worked_numbers()

@@ -2,6 +2,11 @@
 #![tactic(auto)]
 
 mod examples;
-mod number;
+mod numbers;
+mod parts;
+mod scale;
 
-pub use number::NumberFault;
+pub use numbers::{NumberFault, number};
+
+#[cfg(test)]
+mod tests;

@@ -1,0 +1,46 @@
+-- The parts of a number as slices of its text.
+use Rattle.std.specs.Prelude.{◌≡◌, ℕ, List, Bool, true, false, IsTrue, ◌++◌, length, ℤ, pos, ◌-ℤ◌, Option, Some}
+use Rattle.std.specs.List.{list_all}
+use Rattle.frac128.specs.Sign.{with_sign}
+use Rattle.mps_fields.specs.Decimal.{Sign, unsigned, plus, minus, Exponent, Decimal, is_digit, digits_value, mantissa, power, exponent_value}
+use Rattle.mps_fields.specs.Reading.{exponent_of, decimal_of}
+use Rattle.mps_fields.specs.declared.parts.Power.{Power}
+use Rattle.mps_fields.specs.declared.parts.Parts.{Parts}
+
+abbrev pub is_minus : Sign → Bool
+is_minus unsigned = false
+is_minus plus = false
+is_minus minus = true
+
+abbrev pub AllDigits : List ℕ → Type 0
+AllDigits bytes = IsTrue (list_all is_digit bytes)
+
+-- the value of the exponent, M and e
+abbrev pub power_value : Power → ℤ
+power_value x = with_sign x.is_negative (digits_value x.digits.now)
+
+abbrev pub parts_mantissa : Parts → ℤ
+parts_mantissa p = with_sign p.is_negative (digits_value (p.whole.now ++ p.fraction.now))
+
+abbrev pub parts_power : Parts → ℤ
+parts_power p = power_value p.power -ℤ pos (length p.fraction.now)
+
+-- a text is an exponent, or nothing, with these parts
+pub record IsPowerOf (x : Power) (text : List ℕ) : Type 0 where
+  pub exponent : Option Exponent
+  pub found : exponent_of text ≡ Some exponent
+  pub value : power_value x ≡ exponent_value exponent
+  pub digits : AllDigits x.digits.now
+
+pub record HasDigits (p : Parts) : Type 0 where
+  pub whole : AllDigits p.whole.now
+  pub fraction : AllDigits p.fraction.now
+  pub power : AllDigits p.power.digits.now
+
+-- a text is a number with these parts
+pub record ArePartsOf (p : Parts) (text : List ℕ) : Type 0 where
+  pub decimal : Decimal
+  pub found : decimal_of text ≡ Some decimal
+  pub mantissa : parts_mantissa p ≡ mantissa decimal
+  pub power : parts_power p ≡ power decimal
+  pub digits : HasDigits p
