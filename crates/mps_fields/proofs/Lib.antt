@@ -5,3 +5,4 @@ pub mod ScaleLaws
 pub mod FractionLaws
 pub mod ProductLaws
 pub mod NumberLaws
+pub mod LineLaws

@@ -4,3 +4,4 @@ pub mod FixedFields
 pub mod Decimal
 pub mod Reading
 pub mod Parts
+pub mod LineViews

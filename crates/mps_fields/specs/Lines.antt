@@ -1,5 +1,5 @@
 -- The lines of a model text.
-use Rattle.std.specs.Prelude.{ℕ, Bool, false, not, ◌&&◌, ◌||◌, ◌==◌, if◌then◌else◌, List, [], ◌∷◌, map}
+use Rattle.std.specs.Prelude.{ℕ, ◌+◌, ◌-◌, Bool, false, not, ◌&&◌, ◌||◌, ◌==◌, if◌then◌else◌, List, [], ◌∷◌, map, length, take, slice_index}
 use Rattle.std.specs.List.{list_all}
 
 -- the list of lists that a byte begins, where the lists after it are known
@@ -13,14 +13,22 @@ pieces_of [] = []
 pieces_of (byte ∷ bytes) = if byte == 10 then [] ∷ pieces_of bytes else onto_first byte (pieces_of bytes)
 
 -- a piece without the carriage return (the byte 13) that is its last byte
-unfoldable pub without_return : List ℕ → List ℕ
-without_return [] = []
-without_return (byte ∷ []) = if byte == 13 then [] else byte ∷ []
-without_return (byte ∷ next ∷ bytes) = byte ∷ without_return (next ∷ bytes)
+abbrev pub without_return : List ℕ → List ℕ
+without_return piece = if slice_index piece (length piece - 1) == 13 then take (length piece - 1) piece else piece
 
 -- the lines of a text, in order
 abbrev pub lines_of : List ℕ → List (List ℕ)
 lines_of text = map without_return (pieces_of text)
+
+-- a line and its number
+pub record Line : Type 0 where
+  pub bytes : List ℕ
+  pub number : ℕ
+
+-- lines that are numbered from one number on
+unfoldable pub numbered : ℕ → List (List ℕ) → List Line
+numbered number [] = []
+numbered number (line ∷ lines) = (record { bytes = line; number = number }) ∷ numbered (number + 1) lines
 
 -- a blank (32) or a tab (9)
 abbrev pub is_blank : ℕ → Bool

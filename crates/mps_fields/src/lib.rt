@@ -5,8 +5,10 @@ mod examples;
 mod numbers;
 mod parts;
 mod scale;
+mod text_lines;
 
 pub use numbers::{NumberFault, number};
+pub use text_lines::{LineScan, TextLine, lines};
 
 #[cfg(test)]
 mod tests;

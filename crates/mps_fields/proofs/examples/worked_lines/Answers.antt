@@ -1,9 +1,9 @@
 use Rattle.std.proofs.Common.{refl}
-use Rattle.mps_fields.specs.Lines.{pieces_of, without_return}
+use Rattle.mps_fields.specs.Lines.{pieces_of}
 use Rattle.mps_fields.proofs.examples.worked_lines.Goals as goal
 
 pub returns : goal.returns
-unfolding pieces_of without_return
+unfolding pieces_of
 returns c = record {
   two_lines = refl;
   nothing_after = refl;
