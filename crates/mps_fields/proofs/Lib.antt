@@ -6,3 +6,4 @@ pub mod FractionLaws
 pub mod ProductLaws
 pub mod NumberLaws
 pub mod LineLaws
+pub mod SpaceLaws

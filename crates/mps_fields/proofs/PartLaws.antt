@@ -19,7 +19,7 @@ not_not : (b : Bool) → not (not b) ≡ b
 not_not true = refl
 not_not false = refl
 
-prefix_len-not_not : (p : ℕ → Bool) (bytes : List ℕ) → prefix_len (λ x. not (not (p x))) bytes ≡ prefix_len p bytes
+pub prefix_len-not_not : (p : ℕ → Bool) (bytes : List ℕ) → prefix_len (λ x. not (not (p x))) bytes ≡ prefix_len p bytes
 prefix_len-not_not p [] = refl
 prefix_len-not_not p (byte ∷ bytes) =
     ap (λ b. cond b (1 + prefix_len (λ x. not (not (p x))) bytes) 0) (not_not (p byte)) ∙ ap (λ n. cond (p byte) (1 + n) 0) (prefix_len-not_not p bytes)

@@ -2,6 +2,7 @@
 use Rattle.std.specs.Prelude.{ℕ, ◌+◌, ◌-◌, Bool, not, ◌&&◌, ◌==◌, if◌then◌else◌, List, [], ◌∷◌, length, take, drop, Option, Some, None}
 use Rattle.std.specs.List.{list_all, prefix_len, suffix_len}
 use Rattle.mps_fields.specs.FreeFields.{Span}
+use Rattle.mps_fields.specs.Lines.{Line}
 
 abbrev pub is_space : ℕ → Bool
 is_space byte = byte == 32
@@ -41,3 +42,11 @@ is_free_at line column = list_all is_space (columns column column line)
 -- a line is in its columns: no tab up to column 61, and blanks between the fields
 abbrev pub is_in_columns : List ℕ → Bool
 is_in_columns line = list_all (λ byte. not (byte == 9)) (take 61 line) && list_all (is_free_at line) gaps
+
+-- the fields of a line, and its number
+pub record FixedLine : Type 0 where
+  pub fields : List (Option Span)
+  pub number : ℕ
+
+abbrev pub fixed_line : Line → FixedLine
+fixed_line line = record { fields = fixed_fields line.bytes; number = line.number }

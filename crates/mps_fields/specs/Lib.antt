@@ -5,3 +5,4 @@ pub mod Decimal
 pub mod Reading
 pub mod Parts
 pub mod LineViews
+pub mod FieldViews

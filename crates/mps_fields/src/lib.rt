@@ -2,11 +2,15 @@
 #![tactic(auto)]
 
 mod examples;
+mod field;
+mod fixed_form;
 mod numbers;
 mod parts;
 mod scale;
 mod text_lines;
 
+pub use field::Field;
+pub use fixed_form::{FixedFields, fields_fixed};
 pub use numbers::{NumberFault, number};
 pub use text_lines::{LineScan, TextLine, lines};
 
