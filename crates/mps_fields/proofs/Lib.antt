@@ -7,3 +7,6 @@ pub mod ProductLaws
 pub mod NumberLaws
 pub mod LineLaws
 pub mod SpaceLaws
+pub mod RunLaws
+pub mod FoundLaws
+pub mod KeptLaws

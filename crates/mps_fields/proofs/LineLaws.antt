@@ -5,7 +5,7 @@ use Rattle.std.specs.List.{position_or_len}
 use Rattle.std.proofs.lemmas.List.Sums.{prefix_len-le-length}
 use Rattle.std.proofs.lemmas.List.{nil_from_length}
 use Rattle.std.proofs.lemmas.Option.{cond_some, none-some}
-use Rattle.mps_fields.specs.Lines.{Line, pieces_of, onto_first, lines_of, without_return, numbered}
+use Rattle.mps_fields.specs.Lines.{pieces_of, onto_first, lines_of, without_return, numbered}
 use Rattle.mps_fields.proofs.Booleans.{either}
 
 one_more : (n : ℕ) → 1 + n ≡ suc n

@@ -1,6 +1,6 @@
 -- The fields of a line in free form: the longest runs of bytes other than blank and tab.
-use Rattle.std.specs.Prelude.{ℕ, ◌+◌, Bool, true, if◌then◌else◌, List, [], ◌∷◌}
-use Rattle.mps_fields.specs.Lines.{is_blank}
+use Rattle.std.specs.Prelude.{ℕ, ◌+◌, Bool, true, if◌then◌else◌, List, [], ◌∷◌, ◌++◌, take, length}
+use Rattle.mps_fields.specs.Lines.{Line, is_blank}
 
 -- bytes of a line, and the place where they begin: how many bytes of the line stand before them
 pub record Span : Type 0 where
@@ -28,3 +28,16 @@ fields_from place (byte ∷ bytes) =
 -- the fields of a line in free form, in order
 abbrev pub free_fields : List ℕ → List Span
 free_fields line = fields_from 0 line
+
+-- the first six fields of a line, the number of all its fields, and its number
+pub record FreeLine : Type 0 where
+  pub fields : List Span
+  pub count : ℕ
+  pub number : ℕ
+
+abbrev pub free_line : Line → FreeLine
+free_line line = record { fields = take 6 (free_fields line.bytes); count = length (free_fields line.bytes); number = line.number }
+
+-- one more field is found
+abbrev pub with_field : FreeLine → Span → FreeLine
+with_field found field = record { fields = take 6 (found.fields ++ field ∷ []); count = found.count + 1; number = found.number }

@@ -6,3 +6,4 @@ pub mod Reading
 pub mod Parts
 pub mod LineViews
 pub mod FieldViews
+pub mod FreeViews

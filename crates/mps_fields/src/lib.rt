@@ -4,13 +4,16 @@
 mod examples;
 mod field;
 mod fixed_form;
+mod free_form;
 mod numbers;
 mod parts;
+mod runs;
 mod scale;
 mod text_lines;
 
 pub use field::Field;
 pub use fixed_form::{FixedFields, fields_fixed};
+pub use free_form::{FreeFields, fields_free};
 pub use numbers::{NumberFault, number};
 pub use text_lines::{LineScan, TextLine, lines};
 
