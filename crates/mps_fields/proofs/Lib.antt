@@ -10,3 +10,4 @@ pub mod SpaceLaws
 pub mod RunLaws
 pub mod FoundLaws
 pub mod KeptLaws
+pub mod FieldLaws

@@ -18,10 +18,10 @@ blanks bytes = position_or_len (λ byte. not (is_blank byte)) bytes
 abbrev pub run_end : List ℕ → ℕ
 run_end bytes = position_or_len is_blank bytes
 
-run_end-cons : (byte : ℕ) (bytes : List ℕ) → is_blank byte ≡ false → run_end (byte ∷ bytes) ≡ suc (run_end bytes)
+pub run_end-cons : (byte : ℕ) (bytes : List ℕ) → is_blank byte ≡ false → run_end (byte ∷ bytes) ≡ suc (run_end bytes)
 run_end-cons byte bytes e = rw e (one_more (run_end bytes))
 
-run_end-none : (byte : ℕ) (bytes : List ℕ) → is_blank byte ≡ true → run_end (byte ∷ bytes) ≡ 0
+pub run_end-none : (byte : ℕ) (bytes : List ℕ) → is_blank byte ≡ true → run_end (byte ∷ bytes) ≡ 0
 run_end-none byte bytes e = rw e refl
 
 -- ---- one byte
@@ -47,7 +47,7 @@ fields_from-more place byte next bytes e t =
 -- ---- bytes that begin with a run
 
 -- so many bytes in front are the first run
-abbrev RunAt : ℕ → List ℕ → ℕ → ℕ → Type 0
+abbrev pub RunAt : ℕ → List ℕ → ℕ → ℕ → Type 0
 RunAt place bytes len end = fields_from place bytes ≡ (record { at = place; text = take len bytes }) ∷ fields_from end (drop len bytes)
 
 run_at : (place byte : ℕ) (bytes : List ℕ) → is_blank byte ≡ false → RunAt place (byte ∷ bytes) (suc (run_end bytes)) (place + suc (run_end bytes))
@@ -85,18 +85,18 @@ behind_blanks place (byte ∷ bytes) =
     subst (λ k. fields_from place (byte ∷ bytes) ≡ fields_from (place + k) (drop k (byte ∷ bytes))) (sym (blanks-none byte bytes t)) (ap (λ p. fields_from p (byte ∷ bytes)) still))
 
 -- a byte of a run stands in front, if any
-abbrev StartsRun : List ℕ → Type 0
+abbrev pub StartsRun : List ℕ → Type 0
 StartsRun [] = Unit {0}
 StartsRun (byte ∷ bytes) = is_blank byte ≡ false
 
-starts_run : (bytes : List ℕ) → StartsRun (drop (blanks bytes) bytes)
+pub starts_run : (bytes : List ℕ) → StartsRun (drop (blanks bytes) bytes)
 starts_run [] = tt
 starts_run (byte ∷ bytes) =
     either (is_blank byte)
     (λ t. subst (λ k. StartsRun (drop k (byte ∷ bytes))) (sym (blanks-cons byte bytes t)) (starts_run bytes))
     (λ t. subst (λ k. StartsRun (drop k (byte ∷ bytes))) (sym (blanks-none byte bytes t)) t)
 
-run_first : (place : ℕ) (bytes : List ℕ) → StartsRun bytes → 0 < length bytes → RunAt place bytes (run_end bytes) (place + run_end bytes) × (0 < run_end bytes)
+pub run_first : (place : ℕ) (bytes : List ℕ) → StartsRun bytes → 0 < length bytes → RunAt place bytes (run_end bytes) (place + run_end bytes) × (0 < run_end bytes)
 run_first place [] starts some = absurd (omega arith)
 run_first place (byte ∷ bytes) starts some =
     subst (λ k. RunAt place (byte ∷ bytes) k (place + k) × (0 < k)) (sym (run_end-cons byte bytes starts)) (run_at place byte bytes starts, omega arith)

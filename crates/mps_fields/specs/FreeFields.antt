@@ -1,5 +1,6 @@
 -- The fields of a line in free form: the longest runs of bytes other than blank and tab.
-use Rattle.std.specs.Prelude.{ℕ, ◌+◌, Bool, true, if◌then◌else◌, List, [], ◌∷◌, ◌++◌, take, length}
+use Rattle.std.specs.Prelude.{◌≡◌, ℕ, ◌+◌, ◌-◌, ◌≤◌, Bool, true, not, IsTrue, ◌&&◌, nat_lt, if◌then◌else◌, List, [], ◌∷◌, ◌++◌, take, drop, length}
+use Rattle.std.specs.List.{list_all}
 use Rattle.mps_fields.specs.Lines.{Line, is_blank}
 
 -- bytes of a line, and the place where they begin: how many bytes of the line stand before them
@@ -41,3 +42,22 @@ free_line line = record { fields = take 6 (free_fields line.bytes); count = leng
 -- one more field is found
 abbrev pub with_field : FreeLine → Span → FreeLine
 with_field found field = record { fields = take 6 (found.fields ++ field ∷ []); count = found.count + 1; number = found.number }
+
+-- ---- what the fields are, apart from how they are found
+
+-- at least one byte, and neither blank nor tab
+abbrev pub is_run : List ℕ → Bool
+is_run bytes = nat_lt 0 (length bytes) && list_all (λ byte. not (is_blank byte)) bytes
+
+-- the first field behind a place of a line: only blanks and tabs stand before it, its bytes stand at its place, and a blank, a tab or the end of the line follows
+pub record IsNextField (line : List ℕ) (place : ℕ) (field : Span) : Type 0 where
+  pub behind : place ≤ field.at
+  pub before : IsTrue (list_all is_blank (take (field.at - place) (drop place line)))
+  pub bytes : take (length field.text) (drop field.at line) ≡ field.text
+  pub run : IsTrue (is_run field.text)
+  pub after : IsTrue (list_all is_blank (take 1 (drop (field.at + length field.text) line)))
+
+-- all fields behind a place of a line, in rising order; behind the last one stand only blanks and tabs
+unfoldable pub AreFields : List ℕ → ℕ → List Span → Type 0
+AreFields line place [] = IsTrue (list_all is_blank (drop place line))
+AreFields line place (field ∷ fields) = IsNextField line place field × AreFields line (field.at + length field.text) fields

@@ -2,7 +2,7 @@
 ghost use Rattle.std.specs.Prelude.{◌≡◌, ◌↔◌, ℕ, List, [], ◌∷◌, codes, Some, None, Ok, Err, pos, negsuc, true, false};
 ghost use Rattle.exact_math.specs.Rational.{frac, whole};
 ghost use Rattle.mps_fields.specs.Lines.{lines_of, is_comment, is_blank_line, is_data_line, is_section_line};
-ghost use Rattle.mps_fields.specs.FreeFields.{free_fields};
+ghost use Rattle.mps_fields.specs.FreeFields.{free_fields, AreFields};
 ghost use Rattle.mps_fields.specs.FixedFields.{fixed_fields, is_in_columns};
 ghost use Rattle.mps_fields.specs.Decimal.{Decimal, Spells};
 ghost use Rattle.mps_fields.specs.Reading.{number_of, decimal_of};
@@ -53,4 +53,9 @@ pub fn worked_fields()
 pub fn one_reading()
     ensures one { (text : List ℕ) (d e : Decimal) → Spells d text → Spells e text → d ≡ e }
     ensures found { (text : List ℕ) (d : Decimal) → Spells d text ↔ (decimal_of text ≡ Some d) }
+{}
+
+/// The fields of a line in free form are all its runs of bytes other than blank and tab, in rising order, each at its place.
+pub fn free_fields_are_runs()
+    ensures { (line : List ℕ) → AreFields line 0 (free_fields line) }
 {}
