@@ -1,11 +1,11 @@
 -- The fields that are found are all the runs of the line, each at its place.
-use Rattle.std.proofs.Common.{◌≡◌, ℕ, zero, suc, ◌+◌, ◌-◌, ◌<◌, ◌≤◌, Bool, true, false, cond, not, ltb, eqb, IsTrue, List, [], ◌∷◌, ◌++◌, length, take, drop, refl, sym, ap, subst, ◌∙◌, arith}
-use Rattle.std.specs.List.{list_all, prefix_len}
+use Rattle.std.proofs.Common.{◌≡◌, ℕ, zero, suc, ◌+◌, ◌-◌, ◌<◌, ◌≤◌, Bool, true, false, not, eqb, List, [], ◌∷◌, ◌++◌, length, take, drop, refl, sym, ap, subst, ◌∙◌, arith}
+use Rattle.std.specs.List.{list_all}
 use Rattle.std.proofs.lemmas.Bool.{eqb-true, lt-ltb}
 use Rattle.std.proofs.lemmas.List.{length-take-le, length-drop, drop_all, nil_from_length, append-nil, take-append-drop}
 use Rattle.std.proofs.lemmas.List.Sums.{prefix_len-le-length}
 use Rattle.mps_fields.specs.Lines.{is_blank}
-use Rattle.mps_fields.specs.FreeFields.{Span, fields_from, free_fields, is_run, IsNextField, AreFields}
+use Rattle.mps_fields.specs.FreeFields.{fields_from, free_fields, IsNextField, AreFields}
 use Rattle.mps_fields.proofs.Booleans.{either, both_true, true_both, above_zero}
 use Rattle.mps_fields.proofs.ReadingLaws.{front-all}
 use Rattle.mps_fields.proofs.RunLaws.{blanks, run_end, run_end-cons, run_end-none, starts_run, run_first, behind_blanks, no_run}
@@ -35,7 +35,7 @@ run_after (byte ∷ bytes) =
     (λ t. subst (λ k. list_all is_blank (take 1 (drop k (byte ∷ bytes))) ≡ true) (sym (run_end-none byte bytes t)) (true_both (is_blank byte) true t refl))
     (λ t. subst (λ k. list_all is_blank (take 1 (drop k (byte ∷ bytes))) ≡ true) (sym (run_end-cons byte bytes t)) (run_after bytes))
 
-drop-add : (k n : ℕ) (xs : List ℕ) → drop k (drop n xs) ≡ drop (n + k) xs
+pub drop-add : (k n : ℕ) (xs : List ℕ) → drop k (drop n xs) ≡ drop (n + k) xs
 drop-add k zero xs = let same : k ≡ 0 + k = omega arith in ap (λ m. drop m xs) same
 drop-add k (suc n) [] = drop_all k [] (omega arith) ∙ sym (drop_all (suc n + k) [] (omega arith))
 drop-add k (suc n) (x ∷ xs) = let same : suc (n + k) ≡ suc n + k = omega arith in drop-add k n xs ∙ ap (λ m. drop m (x ∷ xs)) same

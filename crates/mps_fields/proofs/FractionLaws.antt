@@ -1,23 +1,28 @@
 -- A fraction of two numbers in range is in range.
-use Rattle.std.proofs.Common.{◌≡◌, ℕ, ◌^◌, ◌<◌, Bool, ℤ, pos, nat_abs, Result, Ok, Err, OkIff, refl, sym, ap, subst, ◌∙◌, arith, div-le_self, to_z, of_z}
+use Rattle.std.proofs.Common.{◌≡◌, ℕ, zero, suc, ◌^◌, ◌<◌, Bool, true, false, ℤ, pos, nat_abs, Result, Ok, Err, OkIff, refl, sym, ap, subst, ◌∙◌, arith, div-le_self, to_z, of_z}
 use Rattle.std.specs.Int.{w128}
-use Rattle.std.proofs.lemmas.Int.{to_z-of_z}
+use Rattle.std.proofs.lemmas.Int.{to_z-of_z, fits_signed_from_abs}
 use Rattle.exact_math.specs.Gcd.{gcd}
+use Rattle.exact_math.specs.GcdLaws.{nat_abs-int_div, nat_abs-neg}
 use Rattle.exact_math.specs.Rational.{ratio, frac}
-use Rattle.exact_math.proofs.RationalLaws.{pos-ne-zero}
 use Rattle.frac128.specs.Range.{InRange}
 use Rattle.frac128.specs.Sign.{with_sign}
-use Rattle.frac128.proofs.Terms.{ratio_is, nat_abs-with_sign, fits_from_narrow}
 
-in_range : (n : ℤ) (d : ℕ) → nat_abs n < 2 ^ 127 → 0 < d → d < 2 ^ 127 → InRange (ratio n (pos d))
-in_range n d small some below =
-    let t = ratio_is n (pos d) (nat_abs n) d (gcd (nat_abs n) d) (pos-ne-zero d some) refl refl refl in
-    record { num = omega (arith, t.2, div-le_self (nat_abs n) (gcd (nat_abs n) d)); den = omega (arith, t.1, div-le_self d (gcd (nat_abs n) d)) }
+pub nat_abs-with_sign : (negative : Bool) (size : ℕ) → nat_abs (with_sign negative size) ≡ size
+nat_abs-with_sign false size = refl
+nat_abs-with_sign true size = nat_abs-neg size
+
+in_range : (n : ℤ) (d : ℕ) → nat_abs n < 2 ^ 127 → 0 < d → d < 2 ^ 127 → InRange (frac n d)
+unfolding frac
+in_range n zero small some below = absurd (omega arith)
+in_range n (suc d) small some below =
+    let g = gcd (nat_abs n) (suc d) in
+    record { num = omega (arith, nat_abs-int_div n g, div-le_self (nat_abs n) g); den = omega (arith, div-le_self (suc d) g) }
 
 -- a signed number that is passed
 pub passed : (s : ℤ) (negative : Bool) (size : ℕ) → size < 2 ^ 127 → s ≡ with_sign negative size → to_z w128 (of_z w128 s) ≡ with_sign negative size
 passed s negative size small e =
-    ap (λ z. to_z w128 (of_z w128 z)) e ∙ to_z-of_z w128 (with_sign negative size) (fits_from_narrow (with_sign negative size) (subst (λ n. n < 2 ^ 127) (sym (nat_abs-with_sign negative size)) small))
+    ap (λ z. to_z w128 (of_z w128 z)) e ∙ to_z-of_z w128 (with_sign negative size) (fits_signed_from_abs w128 (with_sign negative size) (subst (λ n. n < 2 ^ 127) (sym (nat_abs-with_sign negative size)) small))
 
 ok_of : {T E : Type 0} (r : Result T E) (P : Type 0) (v : T) → OkIff r P v → P → r ≡ Ok v
 ok_of (Ok x) P v h p = ap Ok h.1

@@ -11,3 +11,4 @@ pub mod RunLaws
 pub mod FoundLaws
 pub mod KeptLaws
 pub mod FieldLaws
+pub mod ColumnLaws

@@ -5,7 +5,7 @@ use Rattle.exact_math.specs.Rational.{ℚ, frac, whole}
 use Rattle.exact_math.proofs.IntegerRing.{linear, neg_mul, mul_one, zero_mul}
 use Rattle.exact_math.proofs.RationalLaws.{whole-frac, same_frac}
 use Rattle.frac128.specs.Sign.{with_sign}
-use Rattle.frac128.proofs.Terms.{nat_abs-with_sign}
+use Rattle.mps_fields.proofs.FractionLaws.{nat_abs-with_sign}
 use Rattle.mps_fields.specs.Decimal.{scaled, fits_scaled, fits_product}
 use Rattle.mps_fields.proofs.Booleans.{both_true, true_both, some_of}
 use Rattle.mps_fields.proofs.ScaleLaws.{power_pos, power_large, at_least}

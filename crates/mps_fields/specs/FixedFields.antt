@@ -1,5 +1,5 @@
 -- The fields of a line in fixed form, by its columns, which count from 1.
-use Rattle.std.specs.Prelude.{ℕ, ◌+◌, ◌-◌, Bool, not, ◌&&◌, ◌==◌, if◌then◌else◌, List, [], ◌∷◌, length, take, drop, Option, Some, None}
+use Rattle.std.specs.Prelude.{◌≡◌, ◌≤◌, ℕ, ◌+◌, ◌-◌, Bool, not, ◌&&◌, ◌==◌, if◌then◌else◌, List, [], ◌∷◌, length, take, drop, Option, Some, None}
 use Rattle.std.specs.List.{list_all, prefix_len, suffix_len}
 use Rattle.mps_fields.specs.FreeFields.{Span}
 use Rattle.mps_fields.specs.Lines.{Line}
@@ -50,3 +50,9 @@ pub record FixedLine : Type 0 where
 
 abbrev pub fixed_line : Line → FixedLine
 fixed_line line = record { fields = fixed_fields line.bytes; number = line.number }
+
+-- the bytes of a span stand at its place in the line, from one column to another
+pub record LiesBetween (first last : ℕ) (line : List ℕ) (span : Span) : Type 0 where
+  pub bytes : take (length span.text) (drop span.at line) ≡ span.text
+  pub behind : first - 1 ≤ span.at
+  pub within : span.at + length span.text ≤ last

@@ -1,9 +1,9 @@
 //! Worked values of the definitions, and the law that a text is read in one way.
-ghost use Rattle.std.specs.Prelude.{◌≡◌, ◌↔◌, ℕ, List, [], ◌∷◌, codes, Some, None, Ok, Err, pos, negsuc, true, false};
+ghost use Rattle.std.specs.Prelude.{◌≡◌, ◌↔◌, ◌+◌, ◌≤◌, IfSome, ℕ, List, [], ◌∷◌, codes, Some, None, Ok, Err, pos, negsuc, true, false};
 ghost use Rattle.exact_math.specs.Rational.{frac, whole};
 ghost use Rattle.mps_fields.specs.Lines.{lines_of, is_comment, is_blank_line, is_data_line, is_section_line};
 ghost use Rattle.mps_fields.specs.FreeFields.{free_fields, AreFields};
-ghost use Rattle.mps_fields.specs.FixedFields.{fixed_fields, is_in_columns};
+ghost use Rattle.mps_fields.specs.FixedFields.{fixed_fields, is_in_columns, field_between, LiesBetween};
 ghost use Rattle.mps_fields.specs.Decimal.{Decimal, Spells};
 ghost use Rattle.mps_fields.specs.Reading.{number_of, decimal_of};
 ghost use Rattle.mps_fields.specs.declared.numbers.NumberFault.TheVariants.{NotNumber, WideNumber};
@@ -58,4 +58,9 @@ pub fn one_reading()
 /// The fields of a line in free form are all its runs of bytes other than blank and tab, in rising order, each at its place.
 pub fn free_fields_are_runs()
     ensures { (line : List ℕ) → AreFields line 0 (free_fields line) }
+{}
+
+/// A field in fixed form stands at its place in the line, within its columns; the columns of two fields have none in common.
+pub fn fixed_fields_lie_in_columns()
+    ensures { (first last : ℕ) (line : List ℕ) → 1 ≤ first → first ≤ last + 1 → IfSome (field_between first last line) (LiesBetween first last line) }
 {}

@@ -86,3 +86,70 @@ fn refuses_other_texts(rt: HostRuntime) {
         assert_eq!(rt; terms(text), Err(NumberFault::NotNumber));
     }
 }
+
+#[test]
+fn cuts_lines(rt: HostRuntime) {
+    let wants: [(&[u8], u32); 4] = [(b"NAME x", 1), (b"* \r", 2), (b"", 3), (b" x r 1", 4)];
+    let mut found = lines(b"NAME x\r\n* \r\r\n\n x r 1");
+    for (bytes, number) in wants {
+        let line = found.next().expect(&rt, "a line");
+        assert_eq!(rt; line.bytes, bytes);
+        assert_eq!(rt; line.number, number);
+    }
+    assert!(rt; found.next().is_none());
+}
+
+#[test]
+fn cuts_free_fields(rt: HostRuntime) {
+    let line = TextLine {
+        bytes: b" x1\t  r 1.5e3 a b c d ",
+        number: 7,
+    };
+    let found = fields_free(&line);
+    assert_eq!(rt; found.count(), 7);
+    let wants: [(&[u8], u32); 6] = [
+        (b"x1", 1),
+        (b"r", 6),
+        (b"1.5e3", 8),
+        (b"a", 14),
+        (b"b", 16),
+        (b"c", 18),
+    ];
+    for (i, (text, at)) in wants.into_iter().enumerate() {
+        assert!(rt; i < 6 && i < found.count());
+        let field = found.field(i);
+        assert_eq!(rt; field.text, text);
+        assert_eq!(rt; (field.line, field.at), (7, at));
+    }
+}
+
+#[test]
+fn cuts_fixed_fields(rt: HostRuntime) {
+    let line = TextLine {
+        bytes: b" UP BND  1    x 1                4.5                      -123 and more\t",
+        number: 9,
+    };
+    let found = fields_fixed(&line).expect(&rt, "in its columns");
+    let wants: [(usize, &[u8], u32); 5] = [
+        (1, b"UP", 1),
+        (2, b"BND  1", 4),
+        (3, b"x 1", 14),
+        (4, b"4.5", 33),
+        (6, b"-12", 58),
+    ];
+    for (i, text, at) in wants {
+        assert!(rt; i >= 1 && i <= 6);
+        let field = found.field(i).expect(&rt, "a field");
+        assert_eq!(rt; field.text, text);
+        assert_eq!(rt; (field.line, field.at), (9, at));
+    }
+    assert!(rt; found.field(5).is_none());
+}
+
+#[test]
+fn refuses_lines_out_of_columns(rt: HostRuntime) {
+    let rows: [&[u8]; 4] = [b"x", b" UP B\tx", b" UPxB", b"    B       1x"];
+    for bytes in rows {
+        assert!(rt; fields_fixed(&TextLine { bytes, number: 1 }).is_none());
+    }
+}
