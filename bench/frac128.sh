@@ -30,7 +30,7 @@ use std::time::Instant;
 use frac128::Frac;
 
 const COUNT: u32 = 1024;
-const ROUNDS: u32 = 401;
+const ROUNDS: u32 = 201;
 
 // Larger operands have one denominator, so that their sums are in range.
 const LIMIT_OF_DRAWN: u128 = 1 << 64;
@@ -116,15 +116,25 @@ fn main(rt: HostRuntime) -> io::Result<()> {
         (120, 1329227995784915872903807060280344575u128),
     ] {
         let all = operands(rt.alloc(), mask)?;
-        let start = Instant::now(&rt)?;
-        let sum = sums(all.as_slice());
-        let add = start.elapsed(&rt)?.as_nanos();
-        let start = Instant::now(&rt)?;
-        let product = products(all.as_slice());
-        let mul = start.elapsed(&rt)?.as_nanos();
-        let start = Instant::now(&rt)?;
-        let order = comparisons(all.as_slice());
-        let cmp = start.elapsed(&rt)?.as_nanos();
+        let mut add = u128::MAX;
+        let mut mul = u128::MAX;
+        let mut cmp = u128::MAX;
+        let mut sum = (0, 0);
+        let mut product = (0, 0);
+        let mut order = (0, 0);
+
+        // The least of three passes.
+        for _ in 0..3 {
+            let start = Instant::now(&rt)?;
+            sum = sums(all.as_slice());
+            add = add.min(start.elapsed(&rt)?.as_nanos());
+            let start = Instant::now(&rt)?;
+            product = products(all.as_slice());
+            mul = mul.min(start.elapsed(&rt)?.as_nanos());
+            let start = Instant::now(&rt)?;
+            order = comparisons(all.as_slice());
+            cmp = cmp.min(start.elapsed(&rt)?.as_nanos());
+        }
         let calls = u128::from(COUNT) * u128::from(ROUNDS);
         println!(rt; "frac128 {bits} bits: add {} mul {} cmp {} ns  (wide {} {}, check {} {} {})", add / calls, mul / calls, cmp / calls, sum.0, product.0, sum.1, product.1, order.0)?;
     }
@@ -141,7 +151,7 @@ use std::cmp::Ordering;
 use std::time::Instant;
 
 const COUNT: u32 = 1024;
-const ROUNDS: u32 = 401;
+const ROUNDS: u32 = 201;
 const LIMIT: u128 = 1 << 127;
 const LIMIT_OF_DRAWN: u128 = 1 << 64;
 
@@ -240,14 +250,18 @@ fn operands(mask: u128) -> Vec<Frac> {
     all
 }
 
+// The least of three passes.
 fn timed(all: &[Frac], mut call: impl FnMut(&Frac, &Frac)) -> u128 {
-    let start = Instant::now();
-    for _ in 0..ROUNDS {
-        for pair in all.windows(2) {
-            call(&pair[0], &pair[1]);
+    let pass = |_| {
+        let start = Instant::now();
+        for _ in 0..ROUNDS {
+            for pair in all.windows(2) {
+                call(&pair[0], &pair[1]);
+            }
         }
-    }
-    start.elapsed().as_nanos() / (COUNT as u128 * ROUNDS as u128)
+        start.elapsed().as_nanos() / (COUNT as u128 * ROUNDS as u128)
+    };
+    (0..3).map(pass).min().unwrap()
 }
 
 fn main() {

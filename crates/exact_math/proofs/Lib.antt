@@ -11,3 +11,5 @@ pub mod RingExpressions
 pub mod RingSolver
 pub mod RingIdentities
 pub mod OrderedRing
+pub mod RationalTests
+pub mod LcmLaws

@@ -4,9 +4,11 @@ use Rattle.exact_math.specs.Quotient.{floor_div, ceil_div, round_div}
 use Rattle.exact_math.proofs.IntegerRing.{expand, linear, neg_mul}
 use Rattle.exact_math.proofs.IntegerOrder.{le_antisym, lt_of_mul_lt, abs_le}
 
+-- the next multiple of the divisor
 next_multiple : (n q d : ℤ) → n <ℤ (q *ℤ d +ℤ d) → n <ℤ ((q +ℤ pos 1) *ℤ d)
 next_multiple n q d h = simp expand (omega linear)
 
+-- the number is below the multiple after that of the floor
 floor_next : (n : ℤ) (d : ℕ) → 0 < d → n <ℤ (floor_div n d *ℤ pos d +ℤ pos d)
 floor_next (pos a) d some = omega (linear, div-add-mod' a d, mod-lt a some)
 floor_next (negsuc a) d some = omega (linear, div-add-mod' a d, mod-lt a some)

@@ -1,7 +1,10 @@
 -- Worked values of the definitions on rational numbers, each by computation.
 use Rattle.std.proofs.Common.{◌≡◌, pos, negsuc, refl, Greater}
 use Rattle.exact_math.specs.Gcd.{gcd, gcd_within}
-use Rattle.exact_math.specs.Rational.{whole, frac, ratio, ◌+ℚ◌, ◌*ℚ◌, inv_ℚ, rational_cmp, floor, ceil, round}
+use Rattle.std.proofs.Common.{[], ◌∷◌}
+use Rattle.exact_math.proofs.RingSolver.{ring, reads}
+use Rattle.exact_math.proofs.RationalRing.{rationals}
+use Rattle.exact_math.specs.Rational.{ℚ, whole, frac, ratio, ◌+ℚ◌, ◌*ℚ◌, inv_ℚ, rational_cmp, floor, ceil, round}
 
 third_and_sixth : frac (pos 1) 3 +ℚ frac (pos 1) 6 ≡ frac (pos 1) 2
 unfolding frac ◌+ℚ◌ gcd gcd_within
@@ -31,3 +34,7 @@ nearest = (refl, refl, refl)
 neighbours : rational_cmp (frac (pos 170141183460469231731687303715884105726) 170141183460469231731687303715884105727) (frac (pos 170141183460469231731687303715884105725) 170141183460469231731687303715884105726) ≡ Greater
 unfolding frac rational_cmp gcd gcd_within
 neighbours = refl
+
+-- an identity by the solver for commutative rings
+square_of_sum : (p q : ℚ) → (p +ℚ q) *ℚ (p +ℚ q) ≡ p *ℚ p +ℚ whole (pos 2) *ℚ (p *ℚ q) +ℚ q *ℚ q
+square_of_sum p q = ring rationals (p ∷ q ∷ []) (search reads depth 30) (search reads depth 30) refl

@@ -22,14 +22,17 @@ le_floor z q h =
     let s = h.le in
     le_floor_div q.num z q.den (den_pos q) (omega linear)
 
+-- the number is at most the ceiling ..
 pub le_ceil : (q : ℚ) → q ≤ℚ whole (ceil q)
 unfolding whole
 le_ceil q = record { le = omega (linear, ceil_div_above q.num q.den (den_pos q)) }
 
+-- .. and the whole number before that is below it
 pub ceil_lt_next : (q : ℚ) → whole (ceil q -ℤ pos 1) <ℚ q
 unfolding whole
 ceil_lt_next q = record { lt = omega (linear, ceil_div_below q.num q.den (den_pos q)) }
 
+-- a whole number that the number is at most is at least the ceiling
 pub ceil_le : (z : ℤ) (q : ℚ) → q ≤ℚ whole z → ceil q ≤ℤ z
 unfolding whole
 ceil_le z q h =
@@ -41,6 +44,7 @@ pub whole_from_den : (q : ℚ) → IsWhole q → q ≡ whole q.num
 unfolding whole
 whole_from_den q e = same_from_cross q (whole q.num) (subst (λ d. q.num *ℤ pos 1 ≡ q.num *ℤ pos d) (sym e) refl)
 
+-- the terms of a whole number
 pub whole-is : (z : ℤ) → IsWhole (whole z) × ((whole z).num ≡ z)
 unfolding whole
 whole-is z = (refl, refl)

@@ -1,5 +1,5 @@
 -- The greatest common divisor of two natural numbers.
-use Rattle.std.specs.Prelude.{ℕ, zero, suc, ◌%◌}
+use Rattle.std.specs.Prelude.{ℕ, zero, suc, ◌*◌, ◌/◌, ◌%◌}
 
 -- at most so many of Euclid's steps, each of which puts `b` and the remainder of `a` by `b` in place of `a` and `b`
 unfoldable pub gcd_within : ℕ → ℕ → ℕ → ℕ
@@ -11,3 +11,8 @@ gcd_within (suc steps) a (suc b) = gcd_within steps (suc b) (a % suc b)
 -- (`Rattle.exact_math.specs.GcdLaws.gcd-is`). A remainder is below the divisor, so there are at most `b` steps.
 unfoldable pub gcd : ℕ → ℕ → ℕ
 gcd a b = gcd_within b a b
+
+-- the least common multiple: both numbers divide it, and it divides each number that both divide
+-- (`Rattle.exact_math.proofs.LcmLaws`); 0 where one of them is 0
+unfoldable pub lcm : ℕ → ℕ → ℕ
+lcm a b = a / gcd a b * b

@@ -7,7 +7,8 @@ use Rattle.exact_math.specs.Gcd.{gcd}
 use Rattle.exact_math.specs.Quotient.{floor_div, ceil_div, round_div}
 use Rattle.exact_math.specs.GcdLaws.{gcd-one, nat_abs-neg_ℤ, reduced_positive, reduced_lowest, test_of}
 
--- a fraction in lowest terms: the denominator is above 0, and has no divisor in common with the numerator but 1
+-- A fraction in lowest terms: the denominator is above 0, and has no divisor in common with the numerator but 1.
+-- Both facts are tests, which have one proof each, so that numbers with the same terms are equal.
 pub record ℚ : Type 0 where
   pub num : ℤ
   pub den : ℕ
@@ -33,10 +34,12 @@ unfoldable pub ratio : ℤ → ℤ → ℚ
 ratio n (pos d) = frac n d
 ratio n (negsuc d) = frac (neg_ℤ n) (suc d)
 
+-- a/b + c/d = (a*d + c*b)/(b*d)
 infixl 6 ◌+ℚ◌
 unfoldable pub ◌+ℚ◌ : ℚ → ℚ → ℚ
 p +ℚ q = frac (p.num *ℤ pos q.den +ℤ q.num *ℤ pos p.den) (p.den * q.den)
 
+-- the number with its sign changed
 unfoldable pub neg_ℚ : ℚ → ℚ
 neg_ℚ p = record {
   num = neg_ℤ p.num;
@@ -45,10 +48,12 @@ neg_ℚ p = record {
   lowest = subst (λ n. T (gcd n p.den == 1)) (sym (nat_abs-neg_ℤ p.num)) p.lowest;
 }
 
+-- the sum with the negated number
 infixl 6 ◌-ℚ◌
 abbrev pub ◌-ℚ◌ : ℚ → ℚ → ℚ
 p -ℚ q = p +ℚ neg_ℚ q
 
+-- a/b * c/d = (a*c)/(b*d)
 infixl 7 ◌*ℚ◌
 unfoldable pub ◌*ℚ◌ : ℚ → ℚ → ℚ
 p *ℚ q = frac (p.num *ℤ q.num) (p.den * q.den)
@@ -57,6 +62,7 @@ p *ℚ q = frac (p.num *ℤ q.num) (p.den * q.den)
 unfoldable pub inv_ℚ : ℚ → ℚ
 inv_ℚ p = ratio (pos p.den) p.num
 
+-- the product with the inverse
 infixl 7 ◌/ℚ◌
 abbrev pub ◌/ℚ◌ : ℚ → ℚ → ℚ
 p /ℚ q = p *ℚ inv_ℚ q
@@ -69,6 +75,7 @@ pub record ◌≤ℚ◌ (p q : ℚ) : Type 0 where
 pub record ◌<ℚ◌ (p q : ℚ) : Type 0 where
   pub lt : (p.num *ℤ pos q.den) <ℤ (q.num *ℤ pos p.den)
 
+-- the comparison, by the cross products too
 unfoldable pub rational_cmp : ℚ → ℚ → Ordering
 rational_cmp p q = int_cmp (p.num *ℤ pos q.den) (q.num *ℤ pos p.den)
 
@@ -82,5 +89,6 @@ ceil q = ceil_div q.num q.den
 abbrev pub round : ℚ → ℤ
 round q = round_div q.num q.den
 
+-- a whole number has the denominator 1
 abbrev pub IsWhole : ℚ → Type 0
 IsWhole q = q.den ≡ 1

@@ -13,12 +13,15 @@ same_terms p q e f =
     ap (λ x. record { num = p.num; den = p.den; positive = x; lowest = p.lowest }) (T_prop _ p.positive a) ∙ ap (λ x. record { num = p.num; den = p.den; positive = a; lowest = x }) (T_prop _ p.lowest b) in
     subst₂ Same e f own q.positive q.lowest
 
+-- the denominator is above 0
 pub den_pos : (q : ℚ) → 0 < q.den
 den_pos q = ltb→lt 0 q.den q.positive
 
+-- the terms have no common divisor but 1
 pub terms_lowest : (q : ℚ) → gcd (nat_abs q.num) q.den ≡ 1
 terms_lowest q = eqb→eq _ 1 q.lowest
 
+-- a quotient by 1
 by_one : (n : ℤ) → int_div n (pos 1) ≡ n
 by_one (pos a) = ap pos (div-one a)
 by_one (negsuc a) = ap (λ k. neg_ℤ (pos k)) (div-one (suc a))

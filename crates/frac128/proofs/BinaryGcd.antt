@@ -1,8 +1,9 @@
 -- The greatest common divisor by shifts and differences: factors of 2 drop out beside an odd number.
-use Rattle.std.proofs.Common.{◌≡◌, ◌≢◌, ◌⊎◌, ⊎_elim, ℕ, zero, suc, ◌+◌, ◌-◌, ◌*◌, ◌/◌, ◌%◌, ◌^◌, ◌<◌, ◌≤◌, min, refl, sym, ap, ap₂, ◌∙◌, subst, arith, mul_comm, mul_assoc, mod-eq_of_lt, pow-suc, pow-add, one-add}
-use Rattle.std.specs.Int.{w64, abs_diff, trailing_zeros}
+use Rattle.std.proofs.Common.{◌≡◌, ◌≢◌, ⊎_elim, ℕ, zero, suc, ◌+◌, ◌-◌, ◌*◌, ◌/◌, ◌%◌, ◌^◌, ◌<◌, min, sym, ap, ap₂, ◌∙◌, subst, arith, mul_comm, mul_assoc, mod-eq_of_lt, pow-suc, pow-add, one-add}
+use Rattle.std.specs.Int.{Width, abs_diff, trailing_zeros}
+use mir.Val.{bits}
 use Rattle.std.proofs.Math.Nat.{mod-one}
-use Rattle.std.proofs.lemmas.Nat.{mod-pow-add, shr_split, pow_pos}
+use Rattle.std.proofs.lemmas.Nat.{mod-pow-add, shr_split}
 use Rattle.std.proofs.lemmas.Nat.Bits.{bit_at-trailing_zeros}
 use Rattle.std.proofs.lemmas.Bool.{cases_lt}
 use Rattle.std.proofs.lemmas.Bool.Decides.{nat_tests}
@@ -22,52 +23,59 @@ low_zero n (suc k) h =
 gcd_two : (n : ℕ) → n % 2 ≡ 1 → gcd 2 n ≡ 1
 gcd_two n odd = gcd_comm 2 n ∙ gcd-mod n 2 ∙ ap (gcd 2) odd ∙ gcd-one 2
 
+-- the same for each power of 2
 gcd_power : (k n : ℕ) → n % 2 ≡ 1 → gcd (2 ^ k) n ≡ 1
 gcd_power zero n odd = gcd-one_left n
 gcd_power (suc k) n odd =
     ap (λ m. gcd m n) (pow-suc 2 k) ∙ gcd-product (2 ^ k) 2 n (gcd_power k n odd) (gcd_two n odd)
 
 -- what is left of a number without its factors of 2
-module _ (n : ℕ) (some : 0 < n) (fits : n < 2 ^ 64) where
-  pub odd_part : n / 2 ^ trailing_zeros w64 n % 2 ≡ 1
-  odd_part = (bit_at-trailing_zeros w64 n some fits).1
+module _ (w : Width) (n : ℕ) (some : 0 < n) (fits : n < 2 ^ bits w) where
+  -- it is odd
+  pub odd_part : n / 2 ^ trailing_zeros w n % 2 ≡ 1
+  odd_part = (bit_at-trailing_zeros w n some fits).1
 
-  pub split : 2 ^ trailing_zeros w64 n * (n / 2 ^ trailing_zeros w64 n) ≡ n
+  -- with its factors of 2 it is the number
+  pub split : 2 ^ trailing_zeros w n * (n / 2 ^ trailing_zeros w n) ≡ n
   split =
-      let k = trailing_zeros w64 n in
-      let low : n % 2 ^ k ≡ 0 = low_zero n k (bit_at-trailing_zeros w64 n some fits).2 in
+      let k = trailing_zeros w n in
+      let low : n % 2 ^ k ≡ 0 = low_zero n k (bit_at-trailing_zeros w n some fits).2 in
       omega (arith, shr_split n k, low, mul_comm (2 ^ k) (n / 2 ^ k))
 
-  pub gcd_odd_part : (m : ℕ) → m % 2 ≡ 1 → gcd (n / 2 ^ trailing_zeros w64 n) m ≡ gcd n m
+  -- beside an odd number it has the same greatest common divisor
+  pub gcd_odd_part : (m : ℕ) → m % 2 ≡ 1 → gcd (n / 2 ^ trailing_zeros w n) m ≡ gcd n m
   gcd_odd_part m odd =
-      sym (gcd-strip (2 ^ trailing_zeros w64 n) (n / 2 ^ trailing_zeros w64 n) m (gcd_power _ m odd)) ∙ ap (λ k. gcd k m) split
+      sym (gcd-strip (2 ^ trailing_zeros w n) (n / 2 ^ trailing_zeros w n) m (gcd_power _ m odd)) ∙ ap (λ k. gcd k m) split
 
 -- one step: the smaller number, and the difference
 apart : (x y : ℕ) → x ≢ y → (0 < abs_diff x y) × (gcd (abs_diff x y) (min x y) ≡ gcd x y)
 apart x y ne = ⊎_elim
     (λ h. let low : min x y ≡ x = omega arith in let is : abs_diff x y ≡ y - x = grind (arith, nat_tests) in
-        (omega arith, ap₂ gcd is low ∙ gcd-sub y x (omega arith) ∙ gcd_comm y x))
+    (omega arith, ap₂ gcd is low ∙ gcd-sub y x (omega arith) ∙ gcd_comm y x))
     (λ h. let low : min x y ≡ y = omega arith in let is : abs_diff x y ≡ x - y = grind (arith, nat_tests) in
-        (omega arith, ap₂ gcd is low ∙ gcd-sub x y (omega arith)))
+    (omega arith, ap₂ gcd is low ∙ gcd-sub x y (omega arith)))
     (cases_lt x y)
 
-below_64 : (x y : ℕ) → x < 2 ^ 64 → y < 2 ^ 64 → abs_diff x y < 2 ^ 64
-below_64 x y h k = grind (arith, nat_tests)
+-- a difference is below what both numbers are below
+below : (x y limit : ℕ) → x < limit → y < limit → abs_diff x y < limit
+below x y limit h k = grind (arith, nat_tests)
 
+-- the smaller of two odd numbers is odd
 min_odd : (x y : ℕ) → x % 2 ≡ 1 → y % 2 ≡ 1 → min x y % 2 ≡ 1
 min_odd x y h k = ⊎_elim
     (λ l. let low : min x y ≡ x = omega arith in ap (λ n. n % 2) low ∙ h)
     (λ l. let low : min x y ≡ y = omega arith in ap (λ n. n % 2) low ∙ k)
     (cases_lt x y)
 
-pub step_is : (x y rest low : ℕ) → x % 2 ≡ 1 → y % 2 ≡ 1 → x ≢ y → x < 2 ^ 64 → y < 2 ^ 64 → rest ≡ abs_diff x y → low ≡ min x y →
-    (low % 2 ≡ 1) × (rest / 2 ^ trailing_zeros w64 rest % 2 ≡ 1) × (gcd low (rest / 2 ^ trailing_zeros w64 rest) ≡ gcd x y)
-step_is x y rest low x_odd y_odd ne hx hy is_rest is_low =
+-- both numbers stay odd, and the greatest common divisor stays
+pub step_is : (w : Width) (x y rest low : ℕ) → x % 2 ≡ 1 → y % 2 ≡ 1 → x ≢ y → x < 2 ^ bits w → y < 2 ^ bits w → rest ≡ abs_diff x y → low ≡ min x y →
+    (low % 2 ≡ 1) × (rest / 2 ^ trailing_zeros w rest % 2 ≡ 1) × (gcd low (rest / 2 ^ trailing_zeros w rest) ≡ gcd x y)
+step_is w x y rest low x_odd y_odd ne hx hy is_rest is_low =
     let a = apart x y ne in
     let some : 0 < rest = subst (λ n. 0 < n) (sym is_rest) a.0 in
-    let fits : rest < 2 ^ 64 = subst (λ n. n < 2 ^ 64) (sym is_rest) (below_64 x y hx hy) in
+    let fits : rest < 2 ^ bits w = subst (λ n. n < 2 ^ bits w) (sym is_rest) (below x y (2 ^ bits w) hx hy) in
     let odd : low % 2 ≡ 1 = ap (λ n. n % 2) is_low ∙ min_odd x y x_odd y_odd in
-    (odd, odd_part rest some fits, gcd_comm low _ ∙ gcd_odd_part rest some fits low odd ∙ ap₂ gcd is_rest is_low ∙ a.1)
+    (odd, odd_part w rest some fits, gcd_comm low _ ∙ gcd_odd_part w rest some fits low odd ∙ ap₂ gcd is_rest is_low ∙ a.1)
 
 -- ---- the common factors of 2
 
@@ -78,21 +86,23 @@ module _ (m n : ℕ) (m_odd : m % 2 ≡ 1) (n_odd : n % 2 ≡ 1) where
       ap (λ x. gcd (2 ^ i * m) (x * n)) (pow-add 2 i k) ∙ ap (gcd (2 ^ i * m)) (mul_assoc (2 ^ i) (2 ^ k) n) ∙ gcd-mul_left (2 ^ i) m (2 ^ k * n)
       ∙ ap (λ g. 2 ^ i * g) (gcd_comm m (2 ^ k * n) ∙ gcd-strip (2 ^ k) n m (gcd_power k m m_odd) ∙ gcd_comm n m)
 
+  -- where the second number has fewer
   more : (j k : ℕ) → gcd (2 ^ (j + k) * m) (2 ^ j * n) ≡ 2 ^ j * gcd m n
   more j k =
       ap (λ x. gcd (x * m) (2 ^ j * n)) (pow-add 2 j k) ∙ ap (λ x. gcd x (2 ^ j * n)) (mul_assoc (2 ^ j) (2 ^ k) m) ∙ gcd-mul_left (2 ^ j) (2 ^ k * m) n
       ∙ ap (λ g. 2 ^ j * g) (gcd-strip (2 ^ k) m n (gcd_power k n n_odd))
 
+  -- the lesser power of 2 comes out
   powers : (i j : ℕ) → gcd (2 ^ i * m) (2 ^ j * n) ≡ gcd m n * 2 ^ min i j
   powers i j = ⊎_elim
       (λ h. let e : i + (j - i) ≡ j = omega arith in let low : min i j ≡ i = omega arith in
-          ap (λ k. gcd (2 ^ i * m) (2 ^ k * n)) (sym e) ∙ fewer i (j - i) ∙ mul_comm (2 ^ i) (gcd m n) ∙ ap (λ k. gcd m n * 2 ^ k) (sym low))
+      ap (λ k. gcd (2 ^ i * m) (2 ^ k * n)) (sym e) ∙ fewer i (j - i) ∙ mul_comm (2 ^ i) (gcd m n) ∙ ap (λ k. gcd m n * 2 ^ k) (sym low))
       (λ h. let e : j + (i - j) ≡ i = omega arith in let low : min i j ≡ j = omega arith in
-          ap (λ k. gcd (2 ^ k * m) (2 ^ j * n)) (sym e) ∙ more j (i - j) ∙ mul_comm (2 ^ j) (gcd m n) ∙ ap (λ k. gcd m n * 2 ^ k) (sym low))
+      ap (λ k. gcd (2 ^ k * m) (2 ^ j * n)) (sym e) ∙ more j (i - j) ∙ mul_comm (2 ^ j) (gcd m n) ∙ ap (λ k. gcd m n * 2 ^ k) (sym low))
       (cases_lt i j)
 
--- the divisor of the odd parts, with the common factors of 2, fits 64 bits
-pub words_are : (a b g common : ℕ) → 0 < a → 0 < b → a < 2 ^ 64 → b < 2 ^ 64 → g ≡ gcd (a / 2 ^ trailing_zeros w64 a) (b / 2 ^ trailing_zeros w64 b) → common ≡ min (trailing_zeros w64 a) (trailing_zeros w64 b) → g * 2 ^ common % 2 ^ 64 ≡ gcd a b
-words_are a b g common some_a some_b ha hb is_g is_common =
-    let whole : g * 2 ^ common ≡ gcd a b = ap₂ (λ n k. n * 2 ^ k) is_g is_common ∙ sym (powers _ _ (odd_part a some_a ha) (odd_part b some_b hb) (trailing_zeros w64 a) (trailing_zeros w64 b)) ∙ ap₂ gcd (split a some_a ha) (split b some_b hb) in
-    ap (λ n. n % 2 ^ 64) whole ∙ mod-eq_of_lt (gcd_below a b (2 ^ 64) ha hb)
+-- the divisor of the odd parts, with the common factors of 2, fits the width
+pub words_are : (w : Width) (a b g common : ℕ) → 0 < a → 0 < b → a < 2 ^ bits w → b < 2 ^ bits w → g ≡ gcd (a / 2 ^ trailing_zeros w a) (b / 2 ^ trailing_zeros w b) → common ≡ min (trailing_zeros w a) (trailing_zeros w b) → g * 2 ^ common % 2 ^ bits w ≡ gcd a b
+words_are w a b g common some_a some_b ha hb is_g is_common =
+    let whole : g * 2 ^ common ≡ gcd a b = ap₂ (λ n k. n * 2 ^ k) is_g is_common ∙ sym (powers _ _ (odd_part w a some_a ha) (odd_part w b some_b hb) (trailing_zeros w a) (trailing_zeros w b)) ∙ ap₂ gcd (split w a some_a ha) (split w b some_b hb) in
+    ap (λ n. n % 2 ^ bits w) whole ∙ mod-eq_of_lt (gcd_below a b (2 ^ bits w) ha hb)

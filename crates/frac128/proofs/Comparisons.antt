@@ -12,12 +12,15 @@ use Rattle.exact_math.proofs.RationalOrder.{rational_cmp_total, ranked as ration
 use Rattle.exact_math.proofs.IntegerRing.{linear}
 use Rattle.frac128.proofs.Terms.{ltb-zero}
 
+-- the answer for a lesser number
 less : (x y : ℕ) → x < y → nat_cmp x y ≡ Less
 less x y h = grind (arith, nat_tests)
 
+-- for an equal one
 same : (x y : ℕ) → x ≡ y → nat_cmp x y ≡ Equal
 same x y h = grind (arith, nat_tests)
 
+-- for a greater one
 greater : (x y : ℕ) → y < x → nat_cmp x y ≡ Greater
 greater x y h = grind (arith, nat_tests)
 
@@ -26,6 +29,7 @@ alike : (x y u v : ℕ) → (x < y → u < v) → (x ≡ y → u ≡ v) → (y <
 alike x y u v f g h =
     by_ranked _ _ _ (nat_cmp x y) (ranked x y _ refl) (λ e k. e ∙ sym (less u v (f k))) (λ e k. e ∙ sym (same u v (g k))) (λ e k. e ∙ sym (greater u v (h k)))
 
+-- a lesser whole part makes a lesser quotient
 below : (a b c d q s : ℕ) → 0 < d → a < (q + 1) * b → s * d ≤ c → q < s → a * d < c * b
 below a b c d q s some h k l =
     let up : a * d < (q + 1) * b * d = mul-lt-mul_of_pos_right h some in
@@ -49,9 +53,6 @@ by_rests a b c d e =
     let whole = ap (λ x. x * b * d) e in
     alike (a % b * d) (c % d * b) (a * d) (c * b) (λ h. omega (arith, left, right, whole)) (λ h. omega (arith, left, right, whole)) (λ h. omega (arith, left, right, whole))
 
-product_pos : (m n : ℕ) → 0 < m → 0 < n → 0 < m * n
-product_pos m n h k = mul-pos h k
-
 -- a rest of 0 on one side
 pub by_zero : (a b c d : ℕ) → 0 < b → 0 < d → a / b ≡ c / d → (a % b ≡ 0) ⊎ (c % d ≡ 0) → nat_cmp (a % b) (c % d) ≡ nat_cmp (a * d) (c * b)
 by_zero a b c d hb hd e zero_side =
@@ -67,19 +68,24 @@ by_turning a b c d e = ap₂ nat_cmp (mul_comm d (a % b)) (mul_comm b (c % d)) �
 
 -- ---- numbers with signs
 
+-- the answer for a lesser number with a sign
 int_less : (u v : ℤ) → u <ℤ v → int_cmp u v ≡ Less
 int_less u v h = grind linear
 
+-- for an equal one
 int_same : (u v : ℤ) → u ≡ v → int_cmp u v ≡ Equal
 int_same u v h = grind linear
 
+-- for a greater one
 int_greater : (u v : ℤ) → v <ℤ u → int_cmp u v ≡ Greater
 int_greater u v h = grind linear
 
+-- sizes that stand as two numbers with signs do compare as they do
 int_alike : (x y : ℕ) (u v : ℤ) → (x < y → u <ℤ v) → (x ≡ y → u ≡ v) → (y < x → v <ℤ u) → nat_cmp x y ≡ int_cmp u v
 int_alike x y u v f g h =
     by_ranked _ _ _ (nat_cmp x y) (ranked x y _ refl) (λ e k. e ∙ sym (int_less u v (f k))) (λ e k. e ∙ sym (int_same u v (g k))) (λ e k. e ∙ sym (int_greater u v (h k)))
 
+-- no test is both
 not_false : true ≡ false → ⊥
 not_false e = true≢false e
 
@@ -97,31 +103,37 @@ cross_negative (negsuc n) (negsuc m) b d e f =
 cross_negative (pos n) m b d e f = absurd (not_false (sym e ∙ ltb-zero n))
 cross_negative (negsuc n) (pos m) b d e f = absurd (not_false (sym f ∙ ltb-zero m))
 
+-- a negative number is below the others
 cross_less : (n m : ℤ) (b d : ℕ) → 0 < d → int_lt n (pos 0) ≡ true → int_lt m (pos 0) ≡ false → int_cmp (n *ℤ pos d) (m *ℤ pos b) ≡ Less
 cross_less (negsuc n) (pos m) b d hd e f = int_less (negsuc n *ℤ pos d) (pos m *ℤ pos b) (omega linear)
 cross_less (pos n) m b d hd e f = absurd (not_false (sym e ∙ ltb-zero n))
 cross_less (negsuc n) (negsuc m) b d hd e f = absurd (not_false f)
 
+-- and the others are above it
 cross_greater : (n m : ℤ) (b d : ℕ) → 0 < b → int_lt n (pos 0) ≡ false → int_lt m (pos 0) ≡ true → int_cmp (n *ℤ pos d) (m *ℤ pos b) ≡ Greater
 cross_greater (pos n) (negsuc m) b d hb e f = int_greater (pos n *ℤ pos d) (negsuc m *ℤ pos b) (omega linear)
 cross_greater (negsuc n) m b d hb e f = absurd (not_false e)
 cross_greater (pos n) (pos m) b d hb e f = absurd (not_false (sym f ∙ ltb-zero m))
 
 module _ (p q : ℚ) where
+  -- two numbers that are not negative
   pub both_positive : (m n b d : ℕ) → m ≡ nat_abs p.num → n ≡ nat_abs q.num → b ≡ p.den → d ≡ q.den → int_lt p.num (pos 0) ≡ false → int_lt q.num (pos 0) ≡ false → nat_cmp (m * d) (n * b) ≡ rational_cmp p q
   unfolding rational_cmp
   both_positive m n b d is_m is_n is_b is_d e f =
       ap₂ nat_cmp (ap₂ ◌*◌ is_m is_d) (ap₂ ◌*◌ is_n is_b) ∙ cross_positive p.num q.num p.den q.den e f
 
+  -- two negative numbers
   pub both_negative : (m n b d : ℕ) → m ≡ nat_abs p.num → n ≡ nat_abs q.num → b ≡ p.den → d ≡ q.den → int_lt p.num (pos 0) ≡ true → int_lt q.num (pos 0) ≡ true → nat_cmp (n * b) (m * d) ≡ rational_cmp p q
   unfolding rational_cmp
   both_negative m n b d is_m is_n is_b is_d e f =
       ap₂ nat_cmp (ap₂ ◌*◌ is_n is_b) (ap₂ ◌*◌ is_m is_d) ∙ cross_negative p.num q.num p.den q.den e f
 
+  -- a negative number and another
   pub negative_below : int_lt p.num (pos 0) ≡ true → int_lt q.num (pos 0) ≡ false → Less ≡ rational_cmp p q
   unfolding rational_cmp
   negative_below e f = sym (cross_less p.num q.num p.den q.den (den_pos q) e f)
 
+  -- another number and a negative one
   pub positive_above : int_lt p.num (pos 0) ≡ false → int_lt q.num (pos 0) ≡ true → Greater ≡ rational_cmp p q
   unfolding rational_cmp
   positive_above e f = sym (cross_greater p.num q.num p.den q.den (den_pos p) e f)
@@ -133,11 +145,13 @@ eq_from_same : (p q : ℚ) → p ≡ q → is_eq (rational_cmp p q) ≡ true
 eq_from_same p q e =
     ap (λ r. is_eq (rational_cmp p r)) (sym e) ∙ ap is_eq (tied_itself rational_cmp_total p)
 
+-- the fact behind the answer `Equal`
 equal_from : (o : Ordering) (A B C : Type 0) → MatchOrdering o A B C → is_eq o ≡ true → B
 equal_from Less A B C h e = absurd (true≢false (sym e))
 equal_from Equal A B C h e = h
 equal_from Greater A B C h e = absurd (true≢false (sym e))
 
+-- and back
 same_from_eq : (p q : ℚ) → is_eq (rational_cmp p q) ≡ true → p ≡ q
 same_from_eq p q e = equal_from (rational_cmp p q) _ _ _ (rational_ranked p q) e
 
@@ -148,6 +162,7 @@ eq_by_dens p q b d is_b is_d e =
     (λ t. eq_from_same p q (same_terms p q e (sym is_b ∙ eqb-true b d t ∙ is_d)))
     (λ t. eq-eqb b d (is_b ∙ ap (λ r. r.den) (same_from_eq p q t) ∙ sym is_d))
 
+-- numerators that differ decide
 pub ne_by_nums : (p q : ℚ) → (p.num ≡ q.num → ⊥) → false ≡ is_eq (rational_cmp p q)
 ne_by_nums p q ne =
     both_ways false _ (λ t. absurd (true≢false (sym t))) (λ t. absurd (ne (ap (λ r. r.num) (same_from_eq p q t))))

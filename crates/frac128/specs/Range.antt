@@ -30,3 +30,8 @@ pub record IsReduced (n : ℤ) (d : ℕ) : Type 0 where
   pub lowest : gcd (nat_abs n) d ≡ 1
   pub num_narrow : IsNarrow n
   pub den_narrow : d < 2 ^ 127
+
+-- both numbers of the fraction have at most 63 bits, so that products of two such numbers have 126
+pub record IsWord (q : ℚ) : Type 0 where
+  pub num : nat_abs q.num < 2 ^ 63
+  pub den : q.den < 2 ^ 63

@@ -14,8 +14,46 @@ pub fn gcd(a: i128, b: i128) -> i128
     gcd_of_sizes(a.unsigned_abs(), b.unsigned_abs()) as i128
 }
 
-// Euclid's steps until both numbers have 64 bits, which need no division of 128 bits.
 pub(crate) fn gcd_of_sizes(a: u128, b: u128) -> u128
+    ensures { result ≡ gcd_of a b }
+{
+    if a >= WORD && b >= WORD {
+        return gcd_of_long(a, b);
+    }
+    gcd_by_division(a, b)
+}
+
+// Two numbers above 64 bits, without their factors of 2.
+fn gcd_of_long(a: u128, b: u128) -> u128
+    requires a_positive { 0 < a }
+    requires b_positive { 0 < b }
+    ensures { result ≡ gcd_of a b }
+{
+    let common = a.trailing_zeros().min(b.trailing_zeros());
+    gcd_of_long_odd(a >> a.trailing_zeros(), b >> b.trailing_zeros()) << common
+}
+
+// Shifts and differences until one of two odd numbers has 64 bits.
+fn gcd_of_long_odd(a: u128, b: u128) -> u128
+    requires a_odd { a % 2 ≡ 1 }
+    requires b_odd { b % 2 ≡ 1 }
+    ensures { result ≡ gcd_of a b }
+{
+    let mut x = a;
+    let mut y = b;
+    while x >= WORD && y >= WORD {
+        if x == y {
+            return x;
+        }
+        let rest = x.abs_diff(y);
+        x = x.min(y);
+        y = rest >> rest.trailing_zeros();
+    }
+    gcd_by_division(x, y)
+}
+
+// Euclid's steps until both numbers have 64 bits, which need no division of 128 bits.
+fn gcd_by_division(a: u128, b: u128) -> u128
     ensures { result ≡ gcd_of a b }
 {
     let mut high = a;
@@ -27,6 +65,9 @@ pub(crate) fn gcd_of_sizes(a: u128, b: u128) -> u128
     }
     if low == 0 {
         return high;
+    }
+    if low == 1 {
+        return 1;
     }
     let rest = if high >= WORD { high % low } else { high };
     u128::from(gcd_of_words(low as u64, rest as u64))
@@ -42,6 +83,9 @@ pub(crate) fn gcd_of_words(a: u64, b: u64) -> u64
     }
     if b == 0 {
         return a;
+    }
+    if a == 1 || b == 1 {
+        return 1;
     }
     let common = a.trailing_zeros().min(b.trailing_zeros());
     gcd_of_odd(a >> a.trailing_zeros(), b >> b.trailing_zeros()) << common

@@ -1,11 +1,11 @@
 //! The type `Frac`.
 ghost use Rattle.std.specs.Prelude.{◌≡◌, ◌≢◌, ◌^◌, ◌<◌, ◌↔◌, pos, nat_abs, OkIff, IsTrue, int_lt};
 ghost use Rattle.exact_math.specs.Gcd.{gcd as gcd_of};
-ghost use Rattle.exact_math.specs.Rational.{frac, ratio, ◌+ℚ◌, ◌-ℚ◌, ◌*ℚ◌, ◌/ℚ◌, neg_ℚ, inv_ℚ, floor, ceil, IsWhole};
-ghost use Rattle.frac128.specs.Range.{InRange, SumInRange, ProductInRange, IsReduced, IsNarrow};
+ghost use Rattle.exact_math.specs.Rational.{whole, frac, ratio, ◌+ℚ◌, ◌-ℚ◌, ◌*ℚ◌, ◌/ℚ◌, neg_ℚ, inv_ℚ, floor, ceil, IsWhole};
+ghost use Rattle.frac128.specs.Range.{InRange, SumInRange, ProductInRange, IsReduced, IsNarrow, IsWord};
 
-use crate::euclid::gcd_of_sizes;
-use crate::narrow::{LIMIT, Wide, multiple, product, signed, sum};
+use crate::euclid::{gcd_of_sizes, gcd_of_words};
+use crate::narrow::{LIMIT, WORD_LIMIT, Wide, multiple, product, signed, sum, word_multiple};
 use std::marker::Model;
 
 /// A fraction in lowest terms, both of whose numbers are at most 2^127 - 1 in size. Contracts see it as a rational number.
@@ -51,6 +51,14 @@ impl Frac {
         Ok(Frac::of_terms(signed((num < 0) != (den < 0), size), divisor))
     }
 
+    /// A whole number as a fraction.
+    pub fn whole(value: i128) -> Frac
+        requires { nat_abs value < 2 ^ 127 }
+        ensures { result ≡ whole value }
+    {
+        Frac::of_terms(value, 1)
+    }
+
     /// The numerator, which has the fraction's sign.
     pub fn num(&self) -> i128
         ensures value { result ≡ self.now.num }
@@ -92,6 +100,13 @@ impl Frac {
         self.num < 0
     }
 
+    // Whether both numbers have at most 63 bits.
+    pub(crate) fn is_word(&self) -> bool
+        ensures { IsTrue result ↔ IsWord self.now }
+    {
+        self.size() < WORD_LIMIT && self.divisor() < WORD_LIMIT
+    }
+
     // The fraction with these terms.
     fn of_terms(num: i128, den: u128) -> Frac
         requires { IsReduced num den }
@@ -112,11 +127,53 @@ impl Frac {
     {
         let size = num.unsigned_abs();
         let again = gcd_of_sizes(size, common);
+        if again == 1 {
+            return Frac::of_terms(num, den);
+        }
         Frac::of_terms(signed(num < 0, size / again), den / again)
     }
 
     /// The sum; `Wide` where a product or sum on the way to it is too large, as `SumInRange` says.
     pub fn add(&self, other: &Frac) -> Result<Frac, Wide>
+        ensures { OkIff result (SumInRange self.now other.now) (self.now +ℚ other.now) }
+    {
+        if self.is_integer() && other.is_integer() {
+            return self.add_whole(other);
+        }
+        if self.is_word() && other.is_word() {
+            return Ok(self.add_words(other));
+        }
+        self.add_long(other)
+    }
+
+    // The sum of whole numbers.
+    fn add_whole(&self, other: &Frac) -> Result<Frac, Wide>
+        requires left { IsWhole self.now }
+        requires right { IsWhole other.now }
+        ensures { OkIff result (SumInRange self.now other.now) (self.now +ℚ other.now) }
+    {
+        let num = sum(self.num(), other.num())?;
+        Ok(Frac::of_terms(num, 1))
+    }
+
+    // The sum of fractions of 63-bit numbers, whose products fit.
+    fn add_words(&self, other: &Frac) -> Frac
+        requires left { IsWord self.now }
+        requires right { IsWord other.now }
+        ensures in_range { SumInRange self.now other.now }
+        ensures value { result ≡ self.now +ℚ other.now }
+    {
+        let left_den = self.divisor() as u64;
+        let right_den = other.divisor() as u64;
+        let common = gcd_of_words(left_den, right_den);
+        let left = left_den / common;
+        let right = right_den / common;
+        let num = word_multiple(self.num(), right) + word_multiple(other.num(), left);
+        let den = u128::from(left) * u128::from(right_den);
+        Frac::reduced(num, den, u128::from(common))
+    }
+
+    fn add_long(&self, other: &Frac) -> Result<Frac, Wide>
         ensures { OkIff result (SumInRange self.now other.now) (self.now +ℚ other.now) }
     {
         let left_den = self.divisor();
@@ -140,6 +197,48 @@ impl Frac {
 
     /// The product. Common factors are divided out first, so that `Wide` depends on the result alone.
     pub fn mul(&self, other: &Frac) -> Result<Frac, Wide>
+        ensures { OkIff result (ProductInRange self.now other.now) (self.now *ℚ other.now) }
+    {
+        if self.is_integer() && other.is_integer() {
+            return self.mul_whole(other);
+        }
+        if self.is_word() && other.is_word() {
+            return Ok(self.mul_words(other));
+        }
+        self.mul_long(other)
+    }
+
+    // The product of whole numbers.
+    fn mul_whole(&self, other: &Frac) -> Result<Frac, Wide>
+        requires left { IsWhole self.now }
+        requires right { IsWhole other.now }
+        ensures { OkIff result (ProductInRange self.now other.now) (self.now *ℚ other.now) }
+    {
+        let size = product(self.size(), other.size())?;
+        let negative = self.is_negative() != other.is_negative();
+        Ok(Frac::of_terms(signed(negative, size), 1))
+    }
+
+    // The product of fractions of 63-bit numbers, which fits.
+    fn mul_words(&self, other: &Frac) -> Frac
+        requires left { IsWord self.now }
+        requires right { IsWord other.now }
+        ensures in_range { ProductInRange self.now other.now }
+        ensures value { result ≡ self.now *ℚ other.now }
+    {
+        let left_size = self.size() as u64;
+        let left_den = self.divisor() as u64;
+        let right_size = other.size() as u64;
+        let right_den = other.divisor() as u64;
+        let left = gcd_of_words(left_size, right_den);
+        let right = gcd_of_words(right_size, left_den);
+        let size = u128::from(left_size / left) * u128::from(right_size / right);
+        let den = u128::from(left_den / right) * u128::from(right_den / left);
+        let negative = self.is_negative() != other.is_negative();
+        Frac::of_terms(signed(negative, size), den)
+    }
+
+    fn mul_long(&self, other: &Frac) -> Result<Frac, Wide>
         ensures { OkIff result (ProductInRange self.now other.now) (self.now *ℚ other.now) }
     {
         let left_size = self.size();

@@ -1,4 +1,8 @@
 //! Exact fractions of 128-bit numbers: a result is exact, or the answer is `Wide`.
+//!
+//! A `Frac` is in lowest terms, and both its numbers are at most 2^127 - 1 in size. Contracts see it as a
+//! rational number of `exact_math`. `specs/Range.antt` says when a result leaves the range. No call takes memory.
+//! Whole numbers, and terms of 63 bits, have short ways with the same contracts.
 #![tactic(auto)]
 
 mod euclid;

@@ -10,6 +10,9 @@ pub struct Wide;
 // One more than the greatest size.
 pub(crate) const LIMIT: u128 = 1 << 127;
 
+// One more than the greatest number of 63 bits.
+pub(crate) const WORD_LIMIT: u128 = 1 << 63;
+
 pub(crate) fn signed(negative: bool, size: u128) -> i128
     requires { size < 2 ^ 127 }
     ensures { result ≡ with_sign negative size }
@@ -43,4 +46,14 @@ pub(crate) fn sum(x: i128, y: i128) -> Result<i128, Wide>
         Some(z) if z != i128::MIN => Ok(z),
         _ => Err(Wide),
     }
+}
+
+// A number times a factor, both of 63 bits.
+pub(crate) fn word_multiple(number: i128, factor: u64) -> i128
+    requires number_word { nat_abs number < 2 ^ 63 }
+    requires factor_word { factor < 2 ^ 63 }
+    ensures value { result ≡ number *ℤ pos factor }
+    ensures small { nat_abs result < 2 ^ 126 }
+{
+    number * i128::from(factor)
 }

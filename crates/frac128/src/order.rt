@@ -2,10 +2,12 @@
 ghost use Rattle.std.specs.Prelude.{◌≡◌, ◌*◌, ◌<◌};
 ghost use Rattle.std.specs.Ordering.{nat_cmp, as_partial_cmp, eq_by_cmp};
 ghost use Rattle.exact_math.specs.Rational.{rational_cmp};
+ghost use Rattle.frac128.specs.Range.{IsWord};
 ghost use Rattle.frac128.specs.Order.{rational_cmp_total, rational_eq_laws, rational_eq_equivalence, rational_order_laws};
 ghost use Rattle.std.specs.Prelude.{refl};
 
 use crate::frac::Frac;
+use crate::narrow::word_multiple;
 use std::cmp::Ordering;
 
 impl PartialEq for Frac {
@@ -42,6 +44,9 @@ impl Ord for Frac {
     ghost matches_eq = { λ x y. refl };
 
     fn cmp(&self, other: &Frac) -> Ordering {
+        if self.is_word() && other.is_word() {
+            return compare_words(self, other);
+        }
         match (self.is_negative(), other.is_negative()) {
             (false, false) => {
                 compare_quotients(self.size(), self.divisor(), other.size(), other.divisor())
@@ -53,6 +58,17 @@ impl Ord for Frac {
             (false, true) => Ordering::Greater,
         }
     }
+}
+
+// Fractions of 63-bit numbers, whose cross products fit.
+fn compare_words(p: &Frac, q: &Frac) -> Ordering
+    requires left { IsWord p.now }
+    requires right { IsWord q.now }
+    ensures { result ≡ rational_cmp p.now q.now }
+{
+    let left = word_multiple(p.num(), q.divisor() as u64);
+    let right = word_multiple(q.num(), p.divisor() as u64);
+    left.cmp(&right)
 }
 
 /// Compares a/b with c/d: their whole parts decide, or else the parts that remain, turned over.

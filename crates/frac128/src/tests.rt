@@ -36,8 +36,8 @@ fn makes_lowest_terms(rt: HostRuntime) {
 fn adds_and_subtracts(rt: HostRuntime) {
     let third = of(&rt, 1, 3);
     let sixth = of(&rt, 1, 6);
-    let most = of(&rt, MAX, 1);
-    let one = of(&rt, 1, 1);
+    let most = Frac::whole(MAX);
+    let one = Frac::whole(1);
     assert_eq!(rt; terms(third.add(&sixth)), Ok((1, 2)));
     assert_eq!(rt; terms(third.sub(&sixth)), Ok((1, 6)));
     assert_eq!(rt; terms(most.add(&one)), Err(Wide));

@@ -8,7 +8,7 @@ invariant-loop-x l = record {
   y_odd : l.y % 2 ≡ 1;
   x_fits : l.x < 2 ^ 64;
   y_fits : l.y < 2 ^ 64;
-  same : gcd l.x l.y ≡ gcd l.a l.b
+  same : gcd l.x l.y ≡ gcd l.a l.b;
 }
 
 abbrev pub decreases-loop-x : goal.decreases-loop-x

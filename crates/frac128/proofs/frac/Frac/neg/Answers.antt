@@ -8,12 +8,12 @@ pub of_terms-requires : goal.of_terms-requires
 of_terms-requires c =
     let m = neg_made c.args.self.now c.num.result c.divisor.result c.num.ensures.value c.divisor.ensures.value c.num.ensures.narrow (subst (λ k. k < 2 ^ 127) c.divisor.ensures.value c.divisor.ensures.narrow) in
     let fits : FitsSigned w128 c.num.result = record { sfits = c.num.type_inv } in
-    let fits' : FitsSigned w128 (pos 0 -ℤ c.num.result) = fits_from_narrow _ m.1 in
-    simp to_z-of_z m.0.0
+    let fits' : FitsSigned w128 (pos 0 -ℤ c.num.result) = fits_from_narrow _ m.reduced.num_narrow in
+    simp to_z-of_z m.reduced
 
 pub returns : goal.returns
 returns c =
     let m = neg_made c.args.self.now c.num.result c.divisor.result c.num.ensures.value c.divisor.ensures.value c.num.ensures.narrow (subst (λ k. k < 2 ^ 127) c.divisor.ensures.value c.divisor.ensures.narrow) in
     let fits : FitsSigned w128 c.num.result = record { sfits = c.num.type_inv } in
-    let fits' : FitsSigned w128 (pos 0 -ℤ c.num.result) = fits_from_narrow _ m.1 in
-    simp to_z-of_z at c.of_terms.ensures.value ∙ m.0.1
+    let fits' : FitsSigned w128 (pos 0 -ℤ c.num.result) = fits_from_narrow _ m.reduced.num_narrow in
+    simp to_z-of_z at c.of_terms.ensures.value ∙ m.value

@@ -1,9 +1,9 @@
-use Rattle.std.proofs.Common.{◌≡◌, ◌<◌, ◌/◌, ◌∙◌, sym, subst, arith, FitsSigned}
+use Rattle.std.proofs.Common.{◌<◌, ◌/◌, ◌∙◌, sym, subst, arith, FitsSigned}
 use Rattle.std.specs.Int.{w128}
 use Rattle.std.proofs.lemmas.Int.{to_z-of_z}
-use Rattle.exact_math.specs.Rational.{ratio, frac}
-use Rattle.frac128.specs.Range.{InRange, IsReduced}
-use Rattle.frac128.proofs.Terms.{abs_pos, gcd_some, ratio_is, made_of}
+use Rattle.exact_math.specs.Rational.{ratio}
+use Rattle.frac128.specs.Range.{InRange}
+use Rattle.frac128.proofs.Terms.{Makes, abs_pos, gcd_some, ratio_is, made_of}
 use Rattle.frac128.proofs.frac.Frac.new.Goals as goal
 use Rattle.frac128.proofs.frac.Frac.new.Goals.{then-size-ge-LIMIT-via-then-size-ge-LIMIT, then-size-ge-LIMIT-via-else-size-ge-LIMIT+then-divisor-ge-LIMIT}
 
@@ -28,22 +28,22 @@ returns-then-size-ge-LIMIT c = λ h.
     elim c.then-size-ge-LIMIT.branch [ then-size-ge-LIMIT-via-then-size-ge-LIMIT w ↦ omega arith | then-size-ge-LIMIT-via-else-size-ge-LIMIT+then-divisor-ge-LIMIT w ↦ omega arith ]
 
 -- what `of_terms` is called with
-made : (c : goal.After-signed) → InRange (ratio c.args.num c.args.den) × (IsReduced c.signed.result (c.unsigned_abs-divisor.result / c.gcd_of_sizes-common.result) × (frac c.signed.result (c.unsigned_abs-divisor.result / c.gcd_of_sizes-common.result) ≡ ratio c.args.num c.args.den))
+made : (c : goal.After-signed) → Makes (ratio c.args.num c.args.den) c.signed.result (c.unsigned_abs-divisor.result / c.gcd_of_sizes-common.result)
 made c =
     let fits : FitsSigned w128 c.args.den = c.ranges.den in
     let fits' : FitsSigned w128 c.args.num = c.ranges.num in
     let q = ratio c.args.num c.args.den in
     let t = ratio_is c.args.num c.args.den _ _ _ c.requires (simp to_z-of_z at c.unsigned_abs-size.ensures.value) (simp to_z-of_z at c.unsigned_abs-divisor.ensures.value) c.gcd_of_sizes-common.ensures in
     let narrow : InRange q = record { num = omega (arith, t.2); den = omega (arith, t.1) } in
-    (narrow, made_of q (t.0 ∙ sym (simp to_z-of_z at c.signed.ensures)) t.1 narrow)
+    made_of q (t.0 ∙ sym (simp to_z-of_z at c.signed.ensures)) t.1 narrow
 
 pub of_terms-requires : goal.of_terms-requires
 of_terms-requires c =
     let fits : FitsSigned w128 c.signed.result = record { sfits = c.signed.type_inv } in
-    simp to_z-of_z (made c).1.0
+    simp to_z-of_z (made c).reduced
 
 pub returns : goal.returns
 returns c =
     let fits : FitsSigned w128 c.signed.result = record { sfits = c.signed.type_inv } in
     let m = made c.before in
-    (m.0, simp to_z-of_z at c.of_terms.ensures.value ∙ m.1.1)
+    (m.in_range, simp to_z-of_z at c.of_terms.ensures.value ∙ m.value)

@@ -2,11 +2,11 @@ use Rattle.std.proofs.Common.{◌≡◌, ◌<◌, ◌^◌, ◌∙◌, int_lt, po
 use Rattle.std.specs.Int.{w128}
 use Rattle.std.proofs.lemmas.Int.{to_z-of_z}
 use Rattle.std.proofs.lemmas.Result.{err_from_is_err_and}
-use Rattle.exact_math.specs.Rational.{frac, ◌*ℚ◌}
-use Rattle.frac128.specs.Range.{InRange, IsReduced}
+use Rattle.exact_math.specs.Rational.{◌*ℚ◌}
+use Rattle.frac128.specs.Range.{InRange}
 use Rattle.frac128.specs.Sign.{with_sign, differ}
-use Rattle.frac128.proofs.Terms.{gcd_some, product_is, made_of, refused}
-use Rattle.frac128.proofs.frac.Frac.mul.Goals as goal
+use Rattle.frac128.proofs.Terms.{Makes, gcd_some, product_is, made_of, refused}
+use Rattle.frac128.proofs.frac.Frac.mul_long.Goals as goal
 
 pub nonzero_div-left_size : goal.nonzero_div-left_size
 nonzero_div-left_size c = gcd_some _ _ _ c.gcd_of_sizes-left.ensures c.divisor-right_den.ensures.positive
@@ -23,32 +23,32 @@ nonzero_div-right_den c = gcd_some _ _ _ c.gcd_of_sizes-left.ensures c.divisor-r
 pub returns-in_err-size : goal.returns-in_err-size
 returns-in_err-size c =
     let p = err_from_is_err_and c.from_residual.result c.from_residual.ensures.1 in
-    let t = product_is c.args.self.now c.args.other.now _ _ _ _ _ _ c.size-left_size.ensures.value c.size-right_size.ensures.value c.divisor-left_den.ensures.value c.divisor-right_den.ensures.value c.gcd_of_sizes-left.ensures c.gcd_of_sizes-right.ensures in
+    let t = product_is c.args.self.now c.args.other.now c.size-left_size.ensures.value c.size-right_size.ensures.value c.divisor-left_den.ensures.value c.divisor-right_den.ensures.value c.gcd_of_sizes-left.ensures c.gcd_of_sizes-right.ensures in
     refused c.from_residual.result _ _ p.0 p.1 (λ h. c.in_err-size.ensures (subst (λ k. k < 2 ^ 127) t.2 h.num))
 
 pub returns-in_err-den : goal.returns-in_err-den
 returns-in_err-den c =
     let p = err_from_is_err_and c.from_residual-in_err-den.result c.from_residual-in_err-den.ensures.1 in
-    let t = product_is c.args.self.now c.args.other.now _ _ _ _ _ _ c.size-left_size.ensures.value c.size-right_size.ensures.value c.divisor-left_den.ensures.value c.divisor-right_den.ensures.value c.gcd_of_sizes-left.ensures c.gcd_of_sizes-right.ensures in
+    let t = product_is c.args.self.now c.args.other.now c.size-left_size.ensures.value c.size-right_size.ensures.value c.divisor-left_den.ensures.value c.divisor-right_den.ensures.value c.gcd_of_sizes-left.ensures c.gcd_of_sizes-right.ensures in
     refused c.from_residual-in_err-den.result _ _ p.0 p.1 (λ h. c.in_err-den.ensures (subst (λ k. k < 2 ^ 127) t.1 h.den))
 
 -- what `of_terms` is called with
-made : (c : goal.After-signed) → InRange (c.args.self.now *ℚ c.args.other.now) × (IsReduced c.signed.result c.in_ok-den.den × (frac c.signed.result c.in_ok-den.den ≡ c.args.self.now *ℚ c.args.other.now))
+made : (c : goal.After-signed) → Makes (c.args.self.now *ℚ c.args.other.now) c.signed.result c.in_ok-den.den
 made c =
     let q = c.args.self.now *ℚ c.args.other.now in
-    let t = product_is c.args.self.now c.args.other.now _ _ _ _ _ _ c.size-left_size.ensures.value c.size-right_size.ensures.value c.divisor-left_den.ensures.value c.divisor-right_den.ensures.value c.gcd_of_sizes-left.ensures c.gcd_of_sizes-right.ensures in
+    let t = product_is c.args.self.now c.args.other.now c.size-left_size.ensures.value c.size-right_size.ensures.value c.divisor-left_den.ensures.value c.divisor-right_den.ensures.value c.gcd_of_sizes-left.ensures c.gcd_of_sizes-right.ensures in
     let narrow : InRange q = record { num = subst (λ k. k < 2 ^ 127) (sym t.2) c.in_ok-size.ensures.0; den = subst (λ k. k < 2 ^ 127) (sym t.1) c.in_ok-den.ensures.0 } in
     let negative_is : differ (int_lt c.args.self.now.num (pos 0)) (int_lt c.args.other.now.num (pos 0)) ≡ differ c.is_negative.result c.is_negative-2.result = ap₂ differ (sym c.is_negative.ensures) (sym c.is_negative-2.ensures) in
     let num_is : q.num ≡ c.signed.result = t.0 ∙ ap₂ with_sign negative_is (sym c.in_ok-size.ensures.1) ∙ sym c.signed.ensures in
-    (narrow, made_of q num_is (t.1 ∙ sym c.in_ok-den.ensures.1) narrow)
+    made_of q num_is (t.1 ∙ sym c.in_ok-den.ensures.1) narrow
 
 pub of_terms-requires : goal.of_terms-requires
 of_terms-requires c =
     let fits : FitsSigned w128 c.signed.result = record { sfits = c.signed.type_inv } in
-    simp to_z-of_z (made c).1.0
+    simp to_z-of_z (made c).reduced
 
 pub returns : goal.returns
 returns c =
     let fits : FitsSigned w128 c.signed.result = record { sfits = c.signed.type_inv } in
     let m = made c.before in
-    (m.0, simp to_z-of_z at c.of_terms.ensures.value ∙ m.1.1)
+    (m.in_range, simp to_z-of_z at c.of_terms.ensures.value ∙ m.value)

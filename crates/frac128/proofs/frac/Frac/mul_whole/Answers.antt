@@ -1,0 +1,37 @@
+use Rattle.std.proofs.Common.{◌≡◌, ◌<◌, ◌^◌, ◌∙◌, int_lt, pos, sym, ap₂, subst, arith, FitsSigned}
+use Rattle.std.specs.Int.{w128}
+use Rattle.std.proofs.lemmas.Int.{to_z-of_z}
+use Rattle.std.proofs.lemmas.Result.{err_from_is_err_and}
+use Rattle.exact_math.specs.Rational.{◌*ℚ◌}
+use Rattle.frac128.specs.Range.{InRange}
+use Rattle.frac128.specs.Sign.{with_sign, differ}
+use Rattle.frac128.proofs.Terms.{Makes, refused, whole_product, made_of}
+use Rattle.frac128.proofs.frac.Frac.mul_whole.Goals as goal
+
+pub returns-in_err-size : goal.returns-in_err-size
+returns-in_err-size c =
+    let e = err_from_is_err_and c.from_residual.result c.from_residual.ensures.1 in
+    let t = whole_product c.args.self.now c.args.other.now c.requires.left c.requires.right c.size.ensures.value c.size-2.ensures.value in
+    refused c.from_residual.result _ _ e.0 e.1 (λ h. c.in_err-size.ensures (subst (λ k. k < 2 ^ 127) t.2 h.num))
+
+-- what `of_terms` is called with
+made : (c : goal.After-signed) → Makes (c.args.self.now *ℚ c.args.other.now) c.signed.result 1
+made c =
+    let q = c.args.self.now *ℚ c.args.other.now in
+    let t = whole_product c.args.self.now c.args.other.now c.requires.left c.requires.right c.size.ensures.value c.size-2.ensures.value in
+    let one_small : 1 < 2 ^ 127 = omega arith in
+    let narrow : InRange q = record { num = subst (λ k. k < 2 ^ 127) (sym t.2) c.in_ok-size.ensures.0; den = subst (λ k. k < 2 ^ 127) (sym t.1) one_small } in
+    let negative_is : differ (int_lt c.args.self.now.num (pos 0)) (int_lt c.args.other.now.num (pos 0)) ≡ differ c.is_negative.result c.is_negative-2.result = ap₂ differ (sym c.is_negative.ensures) (sym c.is_negative-2.ensures) in
+    let num_is : q.num ≡ c.signed.result = t.0 ∙ ap₂ with_sign negative_is (sym c.in_ok-size.ensures.1) ∙ sym c.signed.ensures in
+    made_of q num_is t.1 narrow
+
+pub of_terms-requires : goal.of_terms-requires
+of_terms-requires c =
+    let fits : FitsSigned w128 c.signed.result = record { sfits = c.signed.type_inv } in
+    simp to_z-of_z (made c).reduced
+
+pub returns : goal.returns
+returns c =
+    let fits : FitsSigned w128 c.signed.result = record { sfits = c.signed.type_inv } in
+    let m = made c.before in
+    (m.in_range, simp to_z-of_z at c.of_terms.ensures.value ∙ m.value)
