@@ -9,6 +9,7 @@ use Rattle.mps_fields.specs.FixedFields.{is_space, columns, without_end, field_b
 use Rattle.mps_fields.proofs.Booleans.{either}
 use Rattle.mps_fields.proofs.FieldLaws.{drop-add}
 
+-- a shorter front of a front
 take-take-le : (n w : ℕ) (xs : List ℕ) → n ≤ w → take n (take w xs) ≡ take n xs
 take-take-le zero w xs h = refl
 take-take-le (suc n) zero xs h = absurd (omega arith)
@@ -39,6 +40,7 @@ lies_between first last lead n line ordered some in_columns few =
       within = omega arith;
     }
 
+-- each field that is there lies between its columns
 pub field_lies : (first last : ℕ) (line : List ℕ) → 1 ≤ first → first ≤ last + 1 → IfSome (field_between first last line) (LiesBetween first last line)
 field_lies first last line some ordered =
     let bytes : List ℕ = columns first last line in

@@ -10,6 +10,7 @@ use Rattle.mps_fields.proofs.Booleans.{either, both_true, true_both, above_zero}
 use Rattle.mps_fields.proofs.ReadingLaws.{front-all}
 use Rattle.mps_fields.proofs.RunLaws.{blanks, run_end, run_end-cons, run_end-none, starts_run, run_first, behind_blanks, no_run}
 
+-- a test that does not fail holds
 not_not : (b : Bool) → not (not b) ≡ true → b ≡ true
 not_not true h = refl
 not_not false h = h
@@ -21,9 +22,11 @@ blanks-all (byte ∷ bytes) h =
     let both = both_true (not (not (is_blank byte))) (list_all (λ b. not (not (is_blank b))) bytes) h in
     true_both (is_blank byte) (list_all is_blank bytes) (not_not (is_blank byte) both.0) (blanks-all bytes both.1)
 
+-- the bytes in front of a run are blanks
 front_blanks : (bytes : List ℕ) → list_all is_blank (take (blanks bytes) bytes) ≡ true
 front_blanks bytes = blanks-all (take (blanks bytes) bytes) (front-all (λ byte. not (not (is_blank byte))) bytes)
 
+-- the bytes of a run are no blanks
 run_all : (bytes : List ℕ) → list_all (λ byte. not (is_blank byte)) (take (run_end bytes) bytes) ≡ true
 run_all bytes = front-all (λ byte. not (is_blank byte)) bytes
 
@@ -35,11 +38,13 @@ run_after (byte ∷ bytes) =
     (λ t. subst (λ k. list_all is_blank (take 1 (drop k (byte ∷ bytes))) ≡ true) (sym (run_end-none byte bytes t)) (true_both (is_blank byte) true t refl))
     (λ t. subst (λ k. list_all is_blank (take 1 (drop k (byte ∷ bytes))) ≡ true) (sym (run_end-cons byte bytes t)) (run_after bytes))
 
+-- two parts passed over, one after another
 pub drop-add : (k n : ℕ) (xs : List ℕ) → drop k (drop n xs) ≡ drop (n + k) xs
 drop-add k zero xs = let same : k ≡ 0 + k = omega arith in ap (λ m. drop m xs) same
 drop-add k (suc n) [] = drop_all k [] (omega arith) ∙ sym (drop_all (suc n + k) [] (omega arith))
 drop-add k (suc n) (x ∷ xs) = let same : suc (n + k) ≡ suc n + k = omega arith in drop-add k n xs ∙ ap (λ m. drop m (x ∷ xs)) same
 
+-- where no run is left, all are blanks
 all_blank : (bytes : List ℕ) → length (drop (blanks bytes) bytes) ≡ 0 → list_all is_blank bytes ≡ true
 all_blank bytes none =
     let whole : take (blanks bytes) bytes ≡ bytes = sym (append-nil (take (blanks bytes) bytes)) ∙ ap (λ rest. take (blanks bytes) bytes ++ rest) (sym (nil_from_length _ none)) ∙ take-append-drop (blanks bytes) bytes in
@@ -65,10 +70,12 @@ next_field place at len line rest at_is rest_is len_is some =
 abbrev Fewer : ℕ → List ℕ → Type 0
 Fewer fuel line = (place : ℕ) → length (drop place line) ≤ fuel → AreFields line place (fields_from place (drop place line))
 
+-- a rest of the line without a run
 no_fields : (place : ℕ) (line : List ℕ) → length (drop (blanks (drop place line)) (drop place line)) ≡ 0 → AreFields line place (fields_from place (drop place line))
 unfolding AreFields
 no_fields place line none = subst (AreFields line place) (sym (no_run place (drop place line) none)) (all_blank (drop place line) none)
 
+-- a rest of the line with a run
 more_fields : (fuel place : ℕ) (line : List ℕ) → Fewer fuel line → length (drop place line) ≤ suc fuel → 0 < length (drop (blanks (drop place line)) (drop place line)) → AreFields line place (fields_from place (drop place line))
 unfolding AreFields
 more_fields fuel place line fields few some =
@@ -87,6 +94,7 @@ more_fields fuel place line fields few some =
     subst (AreFields line place) (sym found)
     (next_field place at len line rest refl rest_is refl first.1, subst (λ n. AreFields line (at + n) (fields_from (at + len) (drop (at + len) line))) (sym size) (fields (at + len) fewer))
 
+-- the fields found behind a place are all
 fields_are : (fuel place : ℕ) (line : List ℕ) → length (drop place line) ≤ fuel → AreFields line place (fields_from place (drop place line))
 fields_are zero place line few = no_fields place line (omega (arith, length-drop (blanks (drop place line)) (drop place line)))
 fields_are (suc fuel) place line few =
@@ -94,5 +102,6 @@ fields_are (suc fuel) place line few =
     (λ t. no_fields place line (eqb-true _ 0 t))
     (λ t. more_fields fuel place line (λ p. fields_are fuel p line) few (above_zero _ t))
 
+-- the fields of a line are all its runs
 pub free_fields_are : (line : List ℕ) → AreFields line 0 (free_fields line)
 free_fields_are line = fields_are (length line) 0 line (omega arith)

@@ -8,10 +8,12 @@ use Rattle.exact_math.specs.Rational.{ratio, frac}
 use Rattle.frac128.specs.Range.{InRange}
 use Rattle.frac128.specs.Sign.{with_sign}
 
+-- the size of a signed number
 pub nat_abs-with_sign : (negative : Bool) (size : ℕ) → nat_abs (with_sign negative size) ≡ size
 nat_abs-with_sign false size = refl
 nat_abs-with_sign true size = nat_abs-neg size
 
+-- lowest terms are no larger than the terms
 in_range : (n : ℤ) (d : ℕ) → nat_abs n < 2 ^ 127 → 0 < d → d < 2 ^ 127 → InRange (frac n d)
 unfolding frac
 in_range n zero small some below = absurd (omega arith)
@@ -24,10 +26,12 @@ pub passed : (s : ℤ) (negative : Bool) (size : ℕ) → size < 2 ^ 127 → s �
 passed s negative size small e =
     ap (λ z. to_z w128 (of_z w128 z)) e ∙ to_z-of_z w128 (with_sign negative size) (fits_signed_from_abs w128 (with_sign negative size) (subst (λ n. n < 2 ^ 127) (sym (nat_abs-with_sign negative size)) small))
 
+-- an answer whose condition is met
 ok_of : {T E : Type 0} (r : Result T E) (P : Type 0) (v : T) → OkIff r P v → P → r ≡ Ok v
 ok_of (Ok x) P v h p = ap Ok h.1
 ok_of (Err e) P v h p = absurd (h p)
 
+-- a fraction of a signed size and a divisor
 pub is_made : {E : Type 0} (r : Result _ E) (a b : ℤ) (negative : Bool) (size d : ℕ) → OkIff r (InRange (ratio a b)) (ratio a b) → a ≡ with_sign negative size → b ≡ pos d → size < 2 ^ 127 → 0 < d → d < 2 ^ 127 → r ≡ Ok (frac (with_sign negative size) d)
 unfolding ratio
 is_made r a b negative size d h e f small some below =

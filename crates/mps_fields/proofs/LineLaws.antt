@@ -8,6 +8,7 @@ use Rattle.std.proofs.lemmas.Option.{cond_some, none-some}
 use Rattle.mps_fields.specs.Lines.{pieces_of, onto_first, lines_of, without_return, numbered}
 use Rattle.mps_fields.proofs.Booleans.{either}
 
+-- one more on either side
 one_more : (n : ℕ) → 1 + n ≡ suc n
 one_more n = omega arith
 
@@ -23,6 +24,7 @@ place_none p xs e =
     (λ t. absurd (none-some end (sym e ∙ ap (λ c. cond c (Some end) None) t)))
     (λ t. grind (arith, t, prefix_len-le-length (λ x. not (p x)) xs))
 
+-- where the first piece ends
 abbrev piece_end : List ℕ → ℕ
 piece_end text = position_or_len (λ byte. eqb byte 10) text
 
@@ -30,6 +32,7 @@ piece_end text = position_or_len (λ byte. eqb byte 10) text
 abbrev IsCut : List ℕ → List (List ℕ) → ℕ → Type 0
 IsCut text pieces len = pieces ≡ take len text ∷ pieces_of (drop 1 (drop len text))
 
+-- the first piece ends at the first line feed
 pub first_piece : (text : List ℕ) → 0 < length text → pieces_of text ≡ take (piece_end text) text ∷ pieces_of (drop 1 (drop (piece_end text) text))
 unfolding pieces_of
 first_piece [] h = absurd (omega arith)
@@ -49,10 +52,12 @@ last_piece text h none =
     let nothing : drop (piece_end text) text ≡ [] = nil_from_length _ none in
     first_piece text h ∙ ap (λ rest. take (piece_end text) text ∷ pieces_of rest) (ap (drop 1) nothing ∙ sym nothing)
 
+-- an empty text has no lines
 pub none_left : (number : ℕ) (text : List ℕ) → length text ≡ 0 → numbered number (lines_of text) ≡ []
 unfolding numbered pieces_of
 none_left number text e = ap (λ t. numbered number (lines_of t)) (nil_from_length text e)
 
+-- the first line, and the lines of the rest
 pub next_line : (number : ℕ) (text piece rest bytes : List ℕ) → pieces_of text ≡ piece ∷ pieces_of rest → bytes ≡ without_return piece
     → numbered number (lines_of text) ≡ (record { bytes = bytes; number = number }) ∷ numbered (number + 1) (lines_of rest)
 unfolding numbered

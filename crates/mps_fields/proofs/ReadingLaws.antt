@@ -11,6 +11,7 @@ use Rattle.mps_fields.proofs.Booleans.{either, both_true, true_both, neither, so
 
 -- ---- single bytes
 
+-- `+` or `-`
 abbrev is_sign : ℕ → Bool
 is_sign byte = eqb byte 43 || eqb byte 45
 
@@ -23,6 +24,7 @@ letter_is P a b c d byte h =
     (λ t. subst P (sym (eqb-true byte 100 t)) c))
     (λ t. subst P (sym (eqb-true byte 68 t)) d)
 
+-- a digit is no sign
 digit_no_sign : (byte : ℕ) → is_digit byte ≡ true → is_sign byte ≡ false
 digit_no_sign byte h =
     either (is_sign byte)
@@ -38,6 +40,7 @@ abbrev Ends : (ℕ → Bool) → List ℕ → Type 0
 Ends p [] = Unit {0}
 Ends p (byte ∷ bytes) = p byte ≡ false
 
+-- the front that passes ends where the rest does not pass
 prefix_len-append : (p : ℕ → Bool) (front rest : List ℕ) → list_all p front ≡ true → Ends p rest → prefix_len p (front ++ rest) ≡ length front
 prefix_len-append p [] [] all ends = refl
 prefix_len-append p [] (byte ∷ rest) all ends = rw ends refl
@@ -45,24 +48,30 @@ prefix_len-append p (byte ∷ front) rest all ends =
     let both = both_true (p byte) (list_all p front) all in
     ap (λ t. cond t (1 + prefix_len p (front ++ rest)) 0) both.0 ∙ ap (λ n. 1 + n) (prefix_len-append p front rest both.1 ends) ∙ omega arith
 
+-- behind the front stands the rest
 drop_seam : (front rest : List ℕ) → drop (length front) (front ++ rest) ≡ rest
 drop_seam [] rest = refl
 drop_seam (byte ∷ front) rest = drop_seam front rest
 
+-- digits in front
 front_digits-append : (digits rest : List ℕ) → list_all is_digit digits ≡ true → Ends is_digit rest → front_digits (digits ++ rest) ≡ digits
 front_digits-append digits rest all ends =
     ap (λ n. take n (digits ++ rest)) (prefix_len-append is_digit digits rest all ends) ∙ take-append_seam digits rest
 
+-- what stands behind digits
 after_digits-append : (digits rest : List ℕ) → list_all is_digit digits ≡ true → Ends is_digit rest → after_digits (digits ++ rest) ≡ rest
 after_digits-append digits rest all ends =
     ap (λ n. drop n (digits ++ rest)) (prefix_len-append is_digit digits rest all ends) ∙ drop_seam digits rest
 
+-- one more on either side
 one_more : (n : ℕ) → 1 + n ≡ suc n
 one_more n = omega arith
 
+-- one more byte that passes
 prefix_len-cons : (p : ℕ → Bool) (byte : ℕ) (bytes : List ℕ) → p byte ≡ true → prefix_len p (byte ∷ bytes) ≡ suc (prefix_len p bytes)
 prefix_len-cons p byte bytes t = ap (λ b. cond b (1 + prefix_len p bytes) 0) t ∙ one_more (prefix_len p bytes)
 
+-- each byte of the front that passes, passes
 pub front-all : (p : ℕ → Bool) (text : List ℕ) → list_all p (take (prefix_len p text) text) ≡ true
 front-all p [] = refl
 front-all p (byte ∷ bytes) =
@@ -72,10 +81,12 @@ front-all p (byte ∷ bytes) =
 
 -- ---- lists of digits
 
+-- one digit or more, all digits
 pub is_digits-all : (bytes : List ℕ) → is_digits bytes ≡ true → list_all is_digit bytes ≡ true
 is_digits-all [] h = absurd (true≢false (sym h))
 is_digits-all (byte ∷ bytes) h = h
 
+-- all of a joined list
 list_all-append : (p : ℕ → Bool) (xs ys : List ℕ) → list_all p (xs ++ ys) ≡ true → (list_all p xs ≡ true) × (list_all p ys ≡ true)
 list_all-append p [] ys h = (refl, h)
 list_all-append p (x ∷ xs) ys h =
@@ -85,6 +96,7 @@ list_all-append p (x ∷ xs) ys h =
 
 -- ---- the sign
 
+-- the sign that is written is found
 sign_of-text : (s : Sign) (text : List ℕ) → Ends is_sign text → sign_of (sign_text s ++ text) ≡ s
 sign_of-text unsigned [] ends = refl
 sign_of-text unsigned (byte ∷ bytes) ends =
@@ -93,12 +105,14 @@ sign_of-text unsigned (byte ∷ bytes) ends =
 sign_of-text plus text ends = refl
 sign_of-text minus text ends = refl
 
+-- the text behind it is found
 after_sign-text : (s : Sign) (text : List ℕ) → Ends is_sign text → after_sign (sign_text s ++ text) ≡ text
 after_sign-text unsigned [] ends = refl
 after_sign-text unsigned (byte ∷ bytes) ends = ap (λ t. cond t bytes (byte ∷ bytes)) ends
 after_sign-text plus text ends = refl
 after_sign-text minus text ends = refl
 
+-- a text is its sign and the rest
 sign-whole : (text : List ℕ) → sign_text (sign_of text) ++ after_sign text ≡ text
 sign-whole [] = refl
 sign-whole (byte ∷ bytes) =
@@ -110,15 +124,18 @@ sign-whole (byte ∷ bytes) =
 
 -- ---- the exponent
 
+-- an exponent does not begin with a byte that no letter is
 exponent_text-ends : (p : ℕ → Bool) → p 101 ≡ false → p 69 ≡ false → p 100 ≡ false → p 68 ≡ false → (x : Option Exponent) → is_exponent x ≡ true → Ends p (exponent_text x)
 exponent_text-ends p a b c d None h = tt
 exponent_text-ends p a b c d (Some x) h =
     letter_is (λ byte. p byte ≡ false) a b c d x.letter (both_true (is_exponent_letter x.letter) (is_digits x.digits) h).0
 
+-- digits begin with no sign
 digits_no_sign : (digits : List ℕ) → is_digits digits ≡ true → Ends is_sign digits
 digits_no_sign [] h = tt
 digits_no_sign (byte ∷ bytes) h = digit_no_sign byte (both_true (is_digit byte) (list_all is_digit bytes) h).0
 
+-- the exponent that is written is found
 exponent_of-text : (x : Option Exponent) → is_exponent x ≡ true → exponent_of (exponent_text x) ≡ Some x
 exponent_of-text None h = refl
 exponent_of-text (Some x) h =
@@ -126,6 +143,7 @@ exponent_of-text (Some x) h =
     let ends = digits_no_sign x.digits both.1 in
     rw (sign_of-text x.sign x.digits ends, after_sign-text x.sign x.digits ends, both.0, both.1) refl
 
+-- an exponent that is found is written
 exponent_is : (text : List ℕ) (x : Option Exponent) → exponent_of text ≡ Some x → (exponent_text x ≡ text) × (is_exponent x ≡ true)
 exponent_is [] x h = subst (λ y. (exponent_text y ≡ []) × (is_exponent y ≡ true)) (same_Some None x h) (refl, refl)
 exponent_is (letter ∷ text) x h =
@@ -136,16 +154,19 @@ exponent_is (letter ∷ text) x h =
 
 -- ---- the fraction
 
+-- the fraction that is written is found
 fraction_of-text : (f : Option (List ℕ)) (x : Option Exponent) → list_all is_digit (fraction_digits f) ≡ true → is_exponent x ≡ true → fraction_of (fraction_text f ++ exponent_text x) ≡ f
 fraction_of-text None None all h = refl
 fraction_of-text None (Some x) all h = ap (λ t. cond t (Some (front_digits (sign_text x.sign ++ x.digits))) None) (exponent_text-ends (λ b. eqb b 46) refl refl refl refl (Some x) h)
 fraction_of-text (Some digits) x all h = ap Some (front_digits-append digits (exponent_text x) all (exponent_text-ends is_digit refl refl refl refl x h))
 
+-- the text behind it is found
 after_fraction-text : (f : Option (List ℕ)) (x : Option Exponent) → list_all is_digit (fraction_digits f) ≡ true → is_exponent x ≡ true → after_fraction (fraction_text f ++ exponent_text x) ≡ exponent_text x
 after_fraction-text None None all h = refl
 after_fraction-text None (Some x) all h = ap (λ t. cond t (after_digits (sign_text x.sign ++ x.digits)) (exponent_text (Some x))) (exponent_text-ends (λ b. eqb b 46) refl refl refl refl (Some x) h)
 after_fraction-text (Some digits) x all h = after_digits-append digits (exponent_text x) all (exponent_text-ends is_digit refl refl refl refl x h)
 
+-- a text is its fraction and the rest
 fraction-whole : (text : List ℕ) → fraction_text (fraction_of text) ++ after_fraction text ≡ text
 fraction-whole [] = refl
 fraction-whole (byte ∷ bytes) =
@@ -153,17 +174,20 @@ fraction-whole (byte ∷ bytes) =
     (λ t. subst (λ b. fraction_text (fraction_of (b ∷ bytes)) ++ after_fraction (b ∷ bytes) ≡ b ∷ bytes) (sym (eqb-true byte 46 t)) (ap (λ rest. 46 ∷ rest) (take-append-drop (prefix_len is_digit bytes) bytes)))
     (λ f. rw f refl)
 
+-- no digit stands behind the whole digits
 fraction_text-ends : (f : Option (List ℕ)) (x : Option Exponent) → is_exponent x ≡ true → Ends is_digit (fraction_text f ++ exponent_text x)
 fraction_text-ends None x h = exponent_text-ends is_digit refl refl refl refl x h
 fraction_text-ends (Some digits) x h = refl
 
 -- ---- the whole text
 
+-- no sign stands behind the sign
 number-no_sign : (whole : List ℕ) (f : Option (List ℕ)) (rest : List ℕ) → is_digits (whole ++ fraction_digits f) ≡ true → Ends is_sign (whole ++ (fraction_text f ++ rest))
 number-no_sign [] None rest h = absurd (true≢false (sym h))
 number-no_sign [] (Some digits) rest h = refl
 number-no_sign (byte ∷ bytes) f rest h = digit_no_sign byte (both_true (is_digit byte) (list_all is_digit (bytes ++ fraction_digits f)) h).0
 
+-- a decimal of found parts
 decimal_with-same : (s t : Sign) (v w : List ℕ) (f g : Option (List ℕ)) (x : Option (Option Exponent)) (y : Option Exponent) → s ≡ t → v ≡ w → f ≡ g → x ≡ Some y → is_digits (w ++ fraction_digits g) ≡ true
     → decimal_with s v f x ≡ Some (record { sign = t; whole = w; fraction = g; exponent = y })
 unfolding decimal_with
@@ -194,6 +218,7 @@ record IsMade (s : Sign) (w : List ℕ) (f : Option (List ℕ)) (x : Option (Opt
   parts : (s ≡ d.sign) × (w ≡ d.whole) × (f ≡ d.fraction)
   digits : is_digits (w ++ fraction_digits f) ≡ true
 
+-- a decimal that is found is of those parts
 decimal_with-made : (s : Sign) (w : List ℕ) (f : Option (List ℕ)) (x : Option (Option Exponent)) (d : Decimal) → decimal_with s w f x ≡ Some d → IsMade s w f x d
 unfolding decimal_with
 decimal_with-made s w f None d h = absurd (none-some d h)
@@ -226,8 +251,10 @@ found_spells text d h =
       exponent = exponent.1;
     }
 
+-- the decimal that a text spells is found
 pub spells_found : (text : List ℕ) (d : Decimal) → Spells d text → decimal_of text ≡ Some d
 spells_found text d s = subst (λ t. decimal_of t ≡ Some d) s.parts (found_in_text d s.digits s.exponent)
 
+-- a text spells one decimal at most
 pub one_reading : (text : List ℕ) (d e : Decimal) → Spells d text → Spells e text → d ≡ e
 one_reading text d e s t = same_Some d e (sym (spells_found text d s) ∙ spells_found text e t)

@@ -9,27 +9,34 @@ use Rattle.mps_fields.specs.FreeViews.{run_span, CutsFirst}
 use Rattle.mps_fields.specs.declared.runs.Cut.{Cut}
 use Rattle.mps_fields.proofs.Booleans.{either}
 
+-- one more on either side
 one_more : (n : ℕ) → 1 + n ≡ suc n
 one_more n = omega arith
 
+-- how many blanks stand in front
 abbrev pub blanks : List ℕ → ℕ
 blanks bytes = position_or_len (λ byte. not (is_blank byte)) bytes
 
+-- how many bytes of a run stand in front
 abbrev pub run_end : List ℕ → ℕ
 run_end bytes = position_or_len is_blank bytes
 
+-- one more byte of a run
 pub run_end-cons : (byte : ℕ) (bytes : List ℕ) → is_blank byte ≡ false → run_end (byte ∷ bytes) ≡ suc (run_end bytes)
 run_end-cons byte bytes e = rw e (one_more (run_end bytes))
 
+-- a blank ends a run
 pub run_end-none : (byte : ℕ) (bytes : List ℕ) → is_blank byte ≡ true → run_end (byte ∷ bytes) ≡ 0
 run_end-none byte bytes e = rw e refl
 
 -- ---- one byte
 
+-- a blank in front
 fields_from-blank : (place byte : ℕ) (bytes : List ℕ) → is_blank byte ≡ true → fields_from place (byte ∷ bytes) ≡ fields_from (place + 1) bytes
 unfolding fields_from
 fields_from-blank place byte bytes t = rw t refl
 
+-- a run of one byte
 fields_from-one : (place byte next : ℕ) (bytes : List ℕ) → is_blank byte ≡ false → is_blank next ≡ true → fields_from place (byte ∷ next ∷ bytes) ≡ (record { at = place; text = byte ∷ [] }) ∷ fields_from (place + 1) (next ∷ bytes)
 unfolding fields_from
 fields_from-one place byte next bytes e t =
@@ -37,6 +44,7 @@ fields_from-one place byte next bytes e t =
     ap (λ u. cond u fields (cond (is_blank next) ((record { at = place; text = byte ∷ [] }) ∷ fields) (onto_first_field place byte fields))) e
     ∙ ap (λ u. cond u ((record { at = place; text = byte ∷ [] }) ∷ fields) (onto_first_field place byte fields)) t
 
+-- a byte in front of a run
 fields_from-more : (place byte next : ℕ) (bytes : List ℕ) → is_blank byte ≡ false → is_blank next ≡ false → fields_from place (byte ∷ next ∷ bytes) ≡ onto_first_field place byte (fields_from (place + 1) (next ∷ bytes))
 unfolding fields_from
 fields_from-more place byte next bytes e t =
@@ -50,6 +58,7 @@ fields_from-more place byte next bytes e t =
 abbrev pub RunAt : ℕ → List ℕ → ℕ → ℕ → Type 0
 RunAt place bytes len end = fields_from place bytes ≡ (record { at = place; text = take len bytes }) ∷ fields_from end (drop len bytes)
 
+-- bytes that begin with a run have it as their first field
 run_at : (place byte : ℕ) (bytes : List ℕ) → is_blank byte ≡ false → RunAt place (byte ∷ bytes) (suc (run_end bytes)) (place + suc (run_end bytes))
 unfolding fields_from
 run_at place byte [] e = ap (λ t. cond t [] ((record { at = place; text = byte ∷ [] }) ∷ [])) e
@@ -64,9 +73,11 @@ run_at place byte (next ∷ bytes) e =
 
 -- ---- blanks in front
 
+-- one more blank
 blanks-cons : (byte : ℕ) (bytes : List ℕ) → is_blank byte ≡ true → blanks (byte ∷ bytes) ≡ suc (blanks bytes)
 blanks-cons byte bytes t = rw t (one_more (blanks bytes))
 
+-- no blank in front
 blanks-none : (byte : ℕ) (bytes : List ℕ) → is_blank byte ≡ false → blanks (byte ∷ bytes) ≡ 0
 blanks-none byte bytes t = rw t refl
 
@@ -89,6 +100,7 @@ abbrev pub StartsRun : List ℕ → Type 0
 StartsRun [] = Unit {0}
 StartsRun (byte ∷ bytes) = is_blank byte ≡ false
 
+-- behind the blanks stands a run, or nothing
 pub starts_run : (bytes : List ℕ) → StartsRun (drop (blanks bytes) bytes)
 starts_run [] = tt
 starts_run (byte ∷ bytes) =
@@ -96,6 +108,7 @@ starts_run (byte ∷ bytes) =
     (λ t. subst (λ k. StartsRun (drop k (byte ∷ bytes))) (sym (blanks-cons byte bytes t)) (starts_run bytes))
     (λ t. subst (λ k. StartsRun (drop k (byte ∷ bytes))) (sym (blanks-none byte bytes t)) t)
 
+-- the first run and what is behind it
 pub run_first : (place : ℕ) (bytes : List ℕ) → StartsRun bytes → 0 < length bytes → RunAt place bytes (run_end bytes) (place + run_end bytes) × (0 < run_end bytes)
 run_first place [] starts some = absurd (omega arith)
 run_first place (byte ∷ bytes) starts some =
@@ -103,10 +116,12 @@ run_first place (byte ∷ bytes) starts some =
 
 -- ---- what the code cuts
 
+-- blanks alone have no field
 pub no_run : (place : ℕ) (bytes : List ℕ) → length (drop (blanks bytes) bytes) ≡ 0 → fields_from place bytes ≡ []
 unfolding fields_from
 no_run place bytes none = behind_blanks place bytes ∙ ap (fields_from (place + blanks bytes)) (nil_from_length _ none)
 
+-- what the code cuts is the first field
 pub run_cut : (place : ℕ) (bytes rest : List ℕ) (cut : Cut) → rest ≡ drop (blanks bytes) bytes → 0 < length rest → cut.run.at ≡ place + blanks bytes → cut.run.text.now ≡ take (run_end rest) rest
     → cut.rest.now ≡ drop (run_end rest) rest → cut.end ≡ cut.run.at + run_end rest → CutsFirst place bytes cut
 run_cut place bytes rest cut behind some at text left end =

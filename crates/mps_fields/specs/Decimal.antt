@@ -27,6 +27,7 @@ sign_text unsigned = []
 sign_text plus = 43 ∷ []
 sign_text minus = 45 ∷ []
 
+-- the whole number of a sign and a size
 abbrev pub signed : Sign → ℕ → ℤ
 signed unsigned n = pos n
 signed plus n = pos n
@@ -42,14 +43,17 @@ pub record Exponent : Type 0 where
 abbrev pub is_exponent_letter : ℕ → Bool
 is_exponent_letter byte = (byte == 101) || (byte == 69) || (byte == 100) || (byte == 68)
 
+-- an exponent is none, or has one of the letters and at least one digit
 abbrev pub is_exponent : Option Exponent → Bool
 is_exponent None = true
 is_exponent (Some exponent) = is_exponent_letter exponent.letter && is_digits exponent.digits
 
+-- the letter, the sign and the digits
 abbrev pub exponent_text : Option Exponent → List ℕ
 exponent_text None = []
 exponent_text (Some exponent) = exponent.letter ∷ (sign_text exponent.sign ++ exponent.digits)
 
+-- the value of an exponent, 0 where there is none
 abbrev pub exponent_value : Option Exponent → ℤ
 exponent_value None = pos 0
 exponent_value (Some exponent) = signed exponent.sign (digits_value exponent.digits)
@@ -66,6 +70,7 @@ abbrev pub fraction_text : Option (List ℕ) → List ℕ
 fraction_text None = []
 fraction_text (Some digits) = 46 ∷ digits
 
+-- the digits after the point, none where there is no point
 abbrev pub fraction_digits : Option (List ℕ) → List ℕ
 fraction_digits None = []
 fraction_digits (Some digits) = digits
@@ -84,6 +89,7 @@ pub record Spells (d : Decimal) (text : List ℕ) : Type 0 where
   pub digits : IsTrue (is_digits (digits_of d))
   pub exponent : IsTrue (is_exponent d.exponent)
 
+-- a text is a number
 abbrev pub IsNumber : List ℕ → Type 0
 IsNumber text = (d : Decimal) × Spells d text
 
@@ -113,9 +119,11 @@ fits_scaled m (negsuc k) = nat_lt (nat_abs m) (2 ^ 127) && nat_le (suc k) 38
 abbrev pub fits_product : ℤ → ℤ → Bool
 fits_product m e = (nat_abs m == 0) || fits_scaled m e
 
+-- a number fits
 abbrev pub fits : Decimal → Bool
 fits d = fits_product (mantissa d) (power d)
 
+-- the same as a fact
 abbrev pub Fits : Decimal → Type 0
 Fits d = IsTrue (fits d)
 

@@ -4,6 +4,7 @@ use Rattle.std.specs.List.{list_all, prefix_len, suffix_len}
 use Rattle.mps_fields.specs.FreeFields.{Span}
 use Rattle.mps_fields.specs.Lines.{Line}
 
+-- a blank
 abbrev pub is_space : ℕ → Bool
 is_space byte = byte == 32
 
@@ -48,6 +49,7 @@ pub record FixedLine : Type 0 where
   pub fields : List (Option Span)
   pub number : ℕ
 
+-- the fields of a numbered line
 abbrev pub fixed_line : Line → FixedLine
 fixed_line line = record { fields = fixed_fields line.bytes; number = line.number }
 

@@ -36,6 +36,7 @@ pub record FreeLine : Type 0 where
   pub count : ℕ
   pub number : ℕ
 
+-- the fields of a numbered line
 abbrev pub free_line : Line → FreeLine
 free_line line = record { fields = take 6 (free_fields line.bytes); count = length (free_fields line.bytes); number = line.number }
 

@@ -4,6 +4,7 @@ use Rattle.mps_fields.specs.declared.runs.Run.{Run}
 use Rattle.mps_fields.specs.declared.runs.Cut.{Cut}
 use Rattle.mps_fields.specs.FreeFields.{Span, fields_from}
 
+-- a run of bytes at its place
 abbrev pub run_span : Run → Span
 run_span run = record { at = run.at; text = run.text.now }
 

@@ -11,6 +11,7 @@ abbrev pub sign_of : List ℕ → Sign
 sign_of [] = unsigned
 sign_of (byte ∷ bytes) = if byte == 43 then plus else (if byte == 45 then minus else unsigned)
 
+-- the text behind the sign
 abbrev pub after_sign : List ℕ → List ℕ
 after_sign [] = []
 after_sign (byte ∷ bytes) = if (byte == 43) || (byte == 45) then bytes else byte ∷ bytes
@@ -19,6 +20,7 @@ after_sign (byte ∷ bytes) = if (byte == 43) || (byte == 45) then bytes else by
 abbrev pub front_digits : List ℕ → List ℕ
 front_digits text = take (prefix_len is_digit text) text
 
+-- the text behind the digits
 abbrev pub after_digits : List ℕ → List ℕ
 after_digits text = drop (prefix_len is_digit text) text
 
@@ -27,6 +29,7 @@ abbrev pub fraction_of : List ℕ → Option (List ℕ)
 fraction_of [] = None
 fraction_of (byte ∷ bytes) = if byte == 46 then Some (front_digits bytes) else None
 
+-- the text behind the fraction
 abbrev pub after_fraction : List ℕ → List ℕ
 after_fraction [] = []
 after_fraction (byte ∷ bytes) = if byte == 46 then after_digits bytes else byte ∷ bytes

@@ -11,6 +11,10 @@ mod runs;
 mod scale;
 mod text_lines;
 
+pub use examples::{
+    fixed_fields_lie_in_columns, free_fields_are_runs, one_reading, worked_fields, worked_lines,
+    worked_numbers,
+};
 pub use field::Field;
 pub use fixed_form::{FixedFields, fields_fixed};
 pub use free_form::{FreeFields, fields_free};

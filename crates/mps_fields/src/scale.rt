@@ -3,7 +3,7 @@ ghost use Rattle.std.specs.Prelude.{◌≡◌, ◌≢◌, ◌+◌, ◌-◌, ◌*
 ghost use Rattle.exact_math.specs.Rational.{frac, whole};
 ghost use Rattle.frac128.specs.Sign.{with_sign};
 ghost use Rattle.mps_fields.specs.Decimal.{is_digit, digits_value, fits_product, scaled};
-ghost use Rattle.mps_fields.specs.Parts.{AllDigits, HasDigits, parts_mantissa, parts_power};
+ghost use Rattle.mps_fields.specs.Parts.{AllDigits, HasDigits, PartsFit, parts_value, whole_of};
 
 use crate::parts::Parts;
 use frac128::Frac;
@@ -16,7 +16,7 @@ const MOST_ZEROS: u128 = 38;
 
 fn with_digit(value: u128, digit: u8) -> Option<u128>
     requires { IsTrue (is_digit digit) }
-    ensures { SomeIff result (10 * value + (digit - 48) < 2 ^ 127) (10 * value + (digit - 48)) }
+    ensures { let next = 10 * value + (digit - 48) in SomeIff result (next < 2 ^ 127) next }
 {
     let value = value
         .checked_mul(10)?
@@ -28,7 +28,7 @@ fn with_digit(value: u128, digit: u8) -> Option<u128>
 fn continued(number: u128, digits: &[u8]) -> Option<u128>
     requires small { number < 2 ^ 127 }
     requires digits { AllDigits digits.now }
-    ensures { SomeIff result (number * 10 ^ length digits.now + digits_value digits.now < 2 ^ 127) (number * 10 ^ length digits.now + digits_value digits.now) }
+    ensures { let whole = whole_of number digits.now in SomeIff result (whole < 2 ^ 127) whole }
 {
     let mut value = number;
     for digit in digits {
@@ -40,7 +40,8 @@ fn continued(number: u128, digits: &[u8]) -> Option<u128>
 fn joined(whole: &[u8], fraction: &[u8]) -> Option<u128>
     requires whole { AllDigits whole.now }
     requires fraction { AllDigits fraction.now }
-    ensures { SomeIff result (digits_value (whole.now ++ fraction.now) < 2 ^ 127) (digits_value (whole.now ++ fraction.now)) }
+    ensures { let number = digits_value (whole.now ++ fraction.now) in
+        SomeIff result (number < 2 ^ 127) number }
 {
     let number = continued(0, whole)?;
     continued(number, fraction)
@@ -76,7 +77,8 @@ fn fraction(is_negative: bool, size: u128, divisor: u128) -> Frac
 // A number with zeros behind it.
 fn raised(is_negative: bool, size: u128, zeros: u128) -> Option<Frac>
     requires { 0 < size }
-    ensures { SomeIff result (size * 10 ^ zeros < 2 ^ 127) (whole (with_sign is_negative (size * 10 ^ zeros))) }
+    ensures { let product = size * 10 ^ zeros in
+        SomeIff result (product < 2 ^ 127) (whole (with_sign is_negative product)) }
 {
     if zeros > MOST_ZEROS {
         return None;
@@ -102,7 +104,7 @@ fn lowered(is_negative: bool, size: u128, places: u128) -> Option<Frac>
 /// The number with these parts, where it fits.
 pub(crate) fn value(parts: &Parts) -> Option<Frac>
     requires { HasDigits parts.now }
-    ensures { SomeIff result (IsTrue (fits_product (parts_mantissa parts.now) (parts_power parts.now))) (scaled (parts_mantissa parts.now) (parts_power parts.now)) }
+    ensures { SomeIff result (PartsFit parts.now) (parts_value parts.now) }
 {
     let size = joined(parts.whole, parts.fraction)?;
     if size == 0 {
