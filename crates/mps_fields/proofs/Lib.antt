@@ -1,0 +1,14 @@
+pub mod Booleans
+pub mod ReadingLaws
+pub mod PartLaws
+pub mod ScaleLaws
+pub mod FractionLaws
+pub mod ProductLaws
+pub mod NumberLaws
+pub mod LineLaws
+pub mod SpaceLaws
+pub mod RunLaws
+pub mod FoundLaws
+pub mod KeptLaws
+pub mod FieldLaws
+pub mod ColumnLaws

@@ -1,0 +1,5 @@
+use Rattle.mps_fields.proofs.FieldLaws.{free_fields_are}
+use Rattle.mps_fields.proofs.examples.free_fields_are_runs.Goals as goal
+
+pub returns : goal.returns
+returns c = free_fields_are

@@ -1,0 +1,95 @@
+//! The fields of a line in free form.
+ghost use Rattle.std.specs.Prelude.{◌≡◌, ◌+◌, ◌<◌, ◌≤◌, ◌^◌, length, slice_get, Some, []};
+ghost use Rattle.mps_fields.specs.FreeFields.{free_line, with_field};
+ghost use Rattle.mps_fields.specs.FreeViews.{run_span};
+ghost use Rattle.mps_fields.specs.FieldViews.{field_span};
+ghost use Rattle.mps_fields.specs.LineViews.{line_view};
+
+use crate::field::Field;
+use crate::runs::{Run, cut_run};
+use crate::text_lines::TextLine;
+use std::marker::Model;
+
+// How many fields are kept.
+const MOST_FIELDS: usize = 6;
+
+/// The first six fields of a line in free form, and the number of all.
+#[derive(Debug, Drop)]
+pub struct FreeFields<'a> {
+    runs: [Run<'a>; MOST_FIELDS],
+    count: usize,
+    line: u32,
+}
+
+impl<'a> Model for FreeFields<'a> {
+    ghost use Rattle.std.specs.Prelude.{◌≡◌, map, take, length};
+    ghost use Rattle.mps_fields.specs.FreeFields.{FreeLine};
+    ghost use Rattle.mps_fields.specs.FreeViews.{run_span};
+
+    ghost Value = { FreeLine };
+
+    ghost view = { λ s. record { fields = take s.count (map run_span s.runs); count = s.count; number = s.line } };
+
+    ghost invariant = { λ s. length s.runs ≡ 6 };
+}
+
+impl<'a> FreeFields<'a> {
+    fn new(line: u32) -> FreeFields<'a>
+        ensures { result ≡ record { fields = []; count = 0; number = line } }
+    {
+        let none = Run { at: 0, text: &[] };
+        FreeFields {
+            runs: [none; MOST_FIELDS],
+            count: 0,
+            line,
+        }
+    }
+
+    fn add(&mut self, run: Run<'a>)
+        requires { self.old.count < 16777216 }
+        ensures { self.new ≡ with_field self.old (run_span run.entry) }
+    {
+        if self.count < MOST_FIELDS {
+            self.runs[self.count] = run;
+        }
+        self.count += 1;
+    }
+
+    /// The number of all fields, also of those behind the sixth.
+    pub fn count(&self) -> usize
+        ensures { result ≡ self.now.count }
+    {
+        self.count
+    }
+
+    /// The field i, from 0.
+    pub fn field(&self, i: usize) -> Field<'a>
+        requires kept { i < 6 }
+        requires there { i < self.now.count }
+        ensures span { slice_get self.now.fields i ≡ Some (field_span result) }
+        ensures line { result.line ≡ self.now.number }
+    {
+        let run = self.runs[i];
+        Field {
+            text: run.text,
+            line: self.line,
+            at: run.at,
+        }
+    }
+}
+
+/// The fields of a line in free form, of which the first six are kept.
+pub fn fields_free<'a>(line: &TextLine<'a>) -> FreeFields<'a>
+    requires { length line.now.bytes.now ≤ 16777216 }
+    ensures { result ≡ free_line (line_view line.now) }
+{
+    let mut found = FreeFields::new(line.number);
+    let mut rest = line.bytes;
+    let mut place = 0;
+    while let Some(cut) = cut_run(rest, place) {
+        found.add(cut.run);
+        rest = cut.rest;
+        place = cut.end;
+    }
+    found
+}
