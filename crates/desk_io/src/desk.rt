@@ -78,7 +78,7 @@ pub enum Call {
     Say,
 }
 
-/// Named inputs and outputs, and a report. A desk serves one run.
+/// Named inputs and outputs, and a report, for one run.
 ///
 /// A contract sees what is left of each input, what was put into each output and what was said,
 /// each of them only where the desk tells it: a desk over real files tells nothing.
@@ -99,7 +99,7 @@ pub trait Desk {
     ghost fault_at: { Self → Option Fault };
 
     /// Takes the next bytes of an input into the front of the buffer, and answers how many.
-    /// A 0 on a buffer that is not empty means the end of the input.
+    /// Where the buffer has room, 0 tells that the input has ended.
     fn take(&mut self, name: &str, buf: &mut [u8]) -> Result<usize, Failed>
         requires { length name.now ≤ 255 }
         ensures count { IfOk result (λ n. n ≤ length buf.new) }
@@ -112,7 +112,7 @@ pub trait Desk {
         ensures cause { HasCause (fault Take name.now) (IsErr result) (IsOk result)
             (faults self.old) (faults self.new) (fault_at self.old) (fault_at self.new) };
 
-    /// Appends bytes to an output, which is empty in a new desk. After an error a prefix of them was appended.
+    /// Appends bytes to an output. Each output is empty at first. After an error a prefix of the bytes was appended.
     fn put(&mut self, name: &str, bytes: &[u8]) -> Result<(), DeskStop>
         requires { length name.now ≤ 255 }
         ensures ok { OnOk result (written self.new name.now ≡ option_map (appended bytes.now) (written self.old name.now)) }

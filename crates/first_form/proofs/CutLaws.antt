@@ -7,7 +7,7 @@ use Rattle.std.proofs.lemmas.List.{nil_from_length}
 use Rattle.std.proofs.lemmas.Option.{cond_some, none-some}
 use Rattle.first_form.proofs.Booleans.{either, suc≢zero}
 use Rattle.first_form.specs.Lines.{lines_of, onto_first, is_blank}
-use Rattle.first_form.specs.Fields.{fields_of}
+use Rattle.first_form.specs.Fields.{free_fields}
 
 one_more : (n : ℕ) → 1 + n ≡ suc n
 one_more n = omega arith
@@ -56,7 +56,7 @@ field_end line = position_or_len is_blank line
 
 -- the rest begins with the first field of the line
 abbrev Splits : List ℕ → List ℕ → Type 0
-Splits line rest = fields_of line ≡ take (field_end rest) rest ∷ fields_of (drop (field_end rest) rest)
+Splits line rest = free_fields line ≡ take (field_end rest) rest ∷ free_fields (drop (field_end rest) rest)
 
 field_end-cons : (byte : ℕ) (bytes : List ℕ) → is_blank byte ≡ false → field_end (byte ∷ bytes) ≡ suc (field_end bytes)
 field_end-cons byte bytes e = rw e (one_more (field_end bytes))
@@ -64,37 +64,37 @@ field_end-cons byte bytes e = rw e (one_more (field_end bytes))
 field_end-none : (byte : ℕ) (bytes : List ℕ) → is_blank byte ≡ true → field_end (byte ∷ bytes) ≡ 0
 field_end-none byte bytes e = rw e refl
 
-fields_of-one : (byte next : ℕ) (bytes : List ℕ) → is_blank byte ≡ false → is_blank next ≡ true → fields_of (byte ∷ next ∷ bytes) ≡ (byte ∷ []) ∷ fields_of (next ∷ bytes)
-unfolding fields_of
-fields_of-one byte next bytes e t =
-    let fields = fields_of (next ∷ bytes) in
+free_fields-one : (byte next : ℕ) (bytes : List ℕ) → is_blank byte ≡ false → is_blank next ≡ true → free_fields (byte ∷ next ∷ bytes) ≡ (byte ∷ []) ∷ free_fields (next ∷ bytes)
+unfolding free_fields
+free_fields-one byte next bytes e t =
+    let fields = free_fields (next ∷ bytes) in
     ap (λ u. cond u fields (cond (is_blank next) ((byte ∷ []) ∷ fields) (onto_first byte fields))) e
     ∙ ap (λ u. cond u ((byte ∷ []) ∷ fields) (onto_first byte fields)) t
 
-fields_of-more : (byte next : ℕ) (bytes : List ℕ) → is_blank byte ≡ false → is_blank next ≡ false → fields_of (byte ∷ next ∷ bytes) ≡ onto_first byte (fields_of (next ∷ bytes))
-unfolding fields_of
-fields_of-more byte next bytes e t =
-    let fields = fields_of (next ∷ bytes) in
+free_fields-more : (byte next : ℕ) (bytes : List ℕ) → is_blank byte ≡ false → is_blank next ≡ false → free_fields (byte ∷ next ∷ bytes) ≡ onto_first byte (free_fields (next ∷ bytes))
+unfolding free_fields
+free_fields-more byte next bytes e t =
+    let fields = free_fields (next ∷ bytes) in
     ap (λ u. cond u fields (cond (is_blank next) ((byte ∷ []) ∷ fields) (onto_first byte fields))) e
     ∙ ap (λ u. cond u ((byte ∷ []) ∷ fields) (onto_first byte fields)) t
 
 -- so many bytes in front are the first field
 abbrev FieldAt : List ℕ → ℕ → Type 0
-FieldAt line len = fields_of line ≡ take len line ∷ fields_of (drop len line)
+FieldAt line len = free_fields line ≡ take len line ∷ free_fields (drop len line)
 
 -- a line whose first byte is of a field
 field_at : (byte : ℕ) (bytes : List ℕ) → is_blank byte ≡ false → FieldAt (byte ∷ bytes) (suc (field_end bytes))
-unfolding fields_of
+unfolding free_fields
 field_at byte [] e = ap (λ t. cond t [] ((byte ∷ []) ∷ [])) e
 field_at byte (next ∷ bytes) e =
     either (is_blank next)
-    (λ t. subst (λ k. FieldAt (byte ∷ next ∷ bytes) (suc k)) (sym (field_end-none next bytes t)) (fields_of-one byte next bytes e t))
+    (λ t. subst (λ k. FieldAt (byte ∷ next ∷ bytes) (suc k)) (sym (field_end-none next bytes t)) (free_fields-one byte next bytes e t))
     (λ t. subst (λ k. FieldAt (byte ∷ next ∷ bytes) (suc k)) (sym (field_end-cons next bytes t))
-    (fields_of-more byte next bytes e t ∙ ap (onto_first byte) (field_at next bytes t)))
+    (free_fields-more byte next bytes e t ∙ ap (onto_first byte) (field_at next bytes t)))
 
-fields_of-blank : (byte : ℕ) (bytes : List ℕ) → is_blank byte ≡ true → fields_of (byte ∷ bytes) ≡ fields_of bytes
-unfolding fields_of
-fields_of-blank byte bytes t = rw t refl
+free_fields-blank : (byte : ℕ) (bytes : List ℕ) → is_blank byte ≡ true → free_fields (byte ∷ bytes) ≡ free_fields bytes
+unfolding free_fields
+free_fields-blank byte bytes t = rw t refl
 
 blanks-cons : (byte : ℕ) (bytes : List ℕ) → is_blank byte ≡ true → blanks (byte ∷ bytes) ≡ suc (blanks bytes)
 blanks-cons byte bytes t = rw t (one_more (blanks bytes))
@@ -108,18 +108,18 @@ first_field [] h = absurd (omega arith)
 first_field (byte ∷ bytes) h =
     either (is_blank byte)
     (λ t. subst (λ k. 0 < length (drop k (byte ∷ bytes)) → Splits (byte ∷ bytes) (drop k (byte ∷ bytes))) (sym (blanks-cons byte bytes t))
-    (λ left. fields_of-blank byte bytes t ∙ first_field bytes left) h)
+    (λ left. free_fields-blank byte bytes t ∙ first_field bytes left) h)
     (λ t. subst (λ k. Splits (byte ∷ bytes) (drop k (byte ∷ bytes))) (sym (blanks-none byte bytes t))
     (subst (FieldAt (byte ∷ bytes)) (sym (field_end-cons byte bytes t)) (field_at byte bytes t)))
 
 -- blanks alone have no field
-pub no_field : (line : List ℕ) → length (drop (blanks line) line) ≡ 0 → fields_of line ≡ []
-unfolding fields_of
+pub no_field : (line : List ℕ) → length (drop (blanks line) line) ≡ 0 → free_fields line ≡ []
+unfolding free_fields
 no_field [] h = refl
 no_field (byte ∷ bytes) h =
     either (is_blank byte)
-    (λ t. subst (λ k. length (drop k (byte ∷ bytes)) ≡ 0 → fields_of (byte ∷ bytes) ≡ []) (sym (blanks-cons byte bytes t))
-    (λ none. fields_of-blank byte bytes t ∙ no_field bytes none) h)
+    (λ t. subst (λ k. length (drop k (byte ∷ bytes)) ≡ 0 → free_fields (byte ∷ bytes) ≡ []) (sym (blanks-cons byte bytes t))
+    (λ none. free_fields-blank byte bytes t ∙ no_field bytes none) h)
     (λ t. absurd (suc≢zero (subst (λ k. length (drop k (byte ∷ bytes)) ≡ 0) (blanks-none byte bytes t) h)))
 
 -- where no line feed is left, the line is all of the text

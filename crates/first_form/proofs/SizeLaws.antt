@@ -9,7 +9,7 @@ use Rattle.std.proofs.lemmas.List.Elements.{All-nil, All-cons, All-head, All-tai
 use Rattle.std.proofs.lemmas.Option.{cond_some, none-some, same_Some}
 use Rattle.first_form.specs.Option.{◌>>=◌, each}
 use Rattle.first_form.specs.Lines.{is_data}
-use Rattle.first_form.specs.Fields.{fields_of}
+use Rattle.first_form.specs.Fields.{free_fields}
 use Rattle.first_form.specs.Numbers.{is_digit, digits_value, natural, whole_number}
 use Rattle.first_form.specs.Tables.{NumberLine, Tables, row_line, number_line, table_of, behind, is_heading, is_word, is_nil, tables_of}
 use Rattle.first_form.specs.Stated.{number_of}
@@ -97,13 +97,13 @@ module _ {A : Type 0} (P : A → Type 0) where
   unfolding table_of
   table_all read each_has [] table e = table_none [] table e
   table_all read each_has (line ∷ lines) table e =
-      let told : Option (List A × List (List ℕ)) = read (fields_of line) >>= λ first. table_of read lines >>= λ rest. Some (first ∷ rest.0, rest.1) in
+      let told : Option (List A × List (List ℕ)) = read (free_fields line) >>= λ first. table_of read lines >>= λ rest. Some (first ∷ rest.0, rest.1) in
       either (is_data line)
       (λ yes.
-      bind_then (read (fields_of line)) (λ first. table_of read lines >>= λ rest. Some (first ∷ rest.0, rest.1)) table (sym (ap (λ t. cond t told (Some ([], line ∷ lines))) yes) ∙ e)
+      bind_then (read (free_fields line)) (λ first. table_of read lines >>= λ rest. Some (first ∷ rest.0, rest.1)) table (sym (ap (λ t. cond t told (Some ([], line ∷ lines))) yes) ∙ e)
       (λ first is others.
       bind_then (table_of read lines) (λ rest. Some (first ∷ rest.0, rest.1)) table others
-      (λ rest found whole. table_more first rest table whole (each_has (fields_of line) first is) (table_all read each_has lines rest found))))
+      (λ rest found whole. table_more first rest table whole (each_has (free_fields line) first is) (table_all read each_has lines rest found))))
       (λ no. table_none (line ∷ lines) table (sym (ap (λ t. cond t told (Some ([], line ∷ lines))) no) ∙ e))
 
 -- all numbers of the tables are small

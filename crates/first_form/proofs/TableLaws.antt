@@ -5,7 +5,7 @@ use Rattle.std.proofs.lemmas.List.{append-nil, nil_from_length}
 use Rattle.first_form.proofs.Booleans.{either, suc≢zero}
 use Rattle.first_form.specs.Option.{◌>>=◌}
 use Rattle.first_form.specs.Lines.{lines_of, onto_first, is_blank, is_data}
-use Rattle.first_form.specs.Fields.{fields_of}
+use Rattle.first_form.specs.Fields.{free_fields}
 use Rattle.first_form.specs.Tables.{behind, is_nil, table_of}
 
 pub no_lines : (text : List ℕ) → length text ≡ 0 → lines_of text ≡ []
@@ -81,7 +81,7 @@ module _ {A : Type 0} (read : List (List ℕ) → Option A) where
       alone None = refl
       alone (Some table) = refl
 
-  pub so_far_more : (front : List A) (rest text line after : List ℕ) (x : A) → lines_of rest ≡ line ∷ lines_of after → is_data rest ≡ true → read (fields_of line) ≡ Some x
+  pub so_far_more : (front : List A) (rest text line after : List ℕ) (x : A) → lines_of rest ≡ line ∷ lines_of after → is_data rest ≡ true → read (free_fields line) ≡ Some x
       → IsSoFar front rest text → IsSoFar (front ++ x ∷ []) after text
   unfolding table_of
   so_far_more front rest text line after x cut data_line found so_far =
@@ -89,11 +89,11 @@ module _ {A : Type 0} (read : List (List ℕ) → Option A) where
       let tables = table_of read (lines_of after) in
       let one : table_of read (lines_of rest) ≡ (tables >>= λ table. Some (x ∷ table.0, table.1)) =
       ap (table_of read) cut
-      ∙ ap (λ b. cond b (read (fields_of line) >>= λ first. tables >>= λ table. Some (first ∷ table.0, table.1)) (Some ([], line ∷ lines_of after))) data_first
+      ∙ ap (λ b. cond b (read (free_fields line) >>= λ first. tables >>= λ table. Some (first ∷ table.0, table.1)) (Some ([], line ∷ lines_of after))) data_first
       ∙ ap (λ r. r >>= λ first. tables >>= λ table. Some (first ∷ table.0, table.1)) found in
       record { same = sym (regroup front x tables) ∙ sym (ap (with_front front) one) ∙ so_far.same }
 
-  pub so_far_fails : (front : List A) (rest text line after : List ℕ) → lines_of rest ≡ line ∷ lines_of after → is_data rest ≡ true → read (fields_of line) ≡ None
+  pub so_far_fails : (front : List A) (rest text line after : List ℕ) → lines_of rest ≡ line ∷ lines_of after → is_data rest ≡ true → read (free_fields line) ≡ None
       → IsSoFar front rest text → table_of read (lines_of text) ≡ None
   unfolding table_of
   so_far_fails front rest text line after cut data_line found so_far =
@@ -101,7 +101,7 @@ module _ {A : Type 0} (read : List (List ℕ) → Option A) where
       let tables = table_of read (lines_of after) in
       let one : table_of read (lines_of rest) ≡ None =
       ap (table_of read) cut
-      ∙ ap (λ b. cond b (read (fields_of line) >>= λ first. tables >>= λ table. Some (first ∷ table.0, table.1)) (Some ([], line ∷ lines_of after))) data_first
+      ∙ ap (λ b. cond b (read (free_fields line) >>= λ first. tables >>= λ table. Some (first ∷ table.0, table.1)) (Some ([], line ∷ lines_of after))) data_first
       ∙ ap (λ r. r >>= λ first. tables >>= λ table. Some (first ∷ table.0, table.1)) found in
       sym so_far.same ∙ ap (with_front front) one
 
@@ -109,7 +109,7 @@ module _ {A : Type 0} (read : List (List ℕ) → Option A) where
   unfolding table_of
   ends_here front text [] e no_data = ap (λ xs. Some (xs, [])) (append-nil front)
   ends_here front text (line ∷ lines) e no_data =
-      ap (λ b. with_front front (cond b (read (fields_of line) >>= λ first. table_of read lines >>= λ table. Some (first ∷ table.0, table.1)) (Some ([], line ∷ lines)))) (first_is_data text line lines e ∙ no_data)
+      ap (λ b. with_front front (cond b (read (free_fields line) >>= λ first. table_of read lines >>= λ table. Some (first ∷ table.0, table.1)) (Some ([], line ∷ lines)))) (first_is_data text line lines e ∙ no_data)
       ∙ ap (λ xs. Some (xs, line ∷ lines)) (append-nil front)
 
   pub so_far_all : (front : List A) (rest text : List ℕ) → is_data rest ≡ false → IsSoFar front rest text → table_of read (lines_of text) ≡ Some (front, lines_of rest)

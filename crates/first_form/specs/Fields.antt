@@ -8,9 +8,9 @@ ends_run [] = true
 ends_run (byte ∷ bytes) = is_blank byte
 
 -- the fields of a line in order
-unfoldable pub fields_of : List ℕ → List (List ℕ)
-fields_of [] = []
-fields_of (byte ∷ bytes) =
-    if is_blank byte then fields_of bytes
-    else if ends_run bytes then (byte ∷ []) ∷ fields_of bytes
-    else onto_first byte (fields_of bytes)
+unfoldable pub free_fields : List ℕ → List (List ℕ)
+free_fields [] = []
+free_fields (byte ∷ bytes) =
+    if is_blank byte then free_fields bytes
+    else if ends_run bytes then (byte ∷ []) ∷ free_fields bytes
+    else onto_first byte (free_fields bytes)

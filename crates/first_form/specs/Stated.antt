@@ -1,5 +1,5 @@
 -- The model that a text of the first form states, found in its tables by look-up.
-use Rattle.std.specs.Prelude.{ℕ, Bool, not, ◌&&◌, nat_le, int_le, if◌then◌else◌, List, [], ◌∷◌, ◌++◌, length, map, filter, find, count_by, ℤ, pos, Option, Some, None, option_map, unwrap_or, codes, bytes_eq, IsSome}
+use Rattle.std.specs.Prelude.{ℕ, Bool, not, ◌&&◌, nat_le, int_le, if◌then◌else◌, List, [], ◌∷◌, ◌++◌, length, map, filter, find, count_by, ℤ, pos, Option, Some, None, option_map, unwrap_or, codes, bytes_eq}
 use Rattle.std.specs.List.{list_all, position_or_len}
 use Rattle.std.specs.Ordering.{int_eq}
 use Rattle.int_model.specs.declared.model.Item.{Item}
@@ -113,6 +113,3 @@ stated_by tables = do
 -- the model that a text states, if it is in the first form
 unfoldable pub stated : List ℕ → Option Model
 stated text = if is_plain text then tables_of (lines_of text) >>= stated_by else None
-
-abbrev pub IsFirstForm : List ℕ → Type 0
-IsFirstForm text = IsSome (stated text)

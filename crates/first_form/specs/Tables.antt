@@ -2,7 +2,7 @@
 use Rattle.std.specs.Prelude.{ℕ, Bool, true, false, not, ◌||◌, if◌then◌else◌, List, [], ◌∷◌, take, ℤ, Option, Some, None, option_map, codes, bytes_eq}
 use Rattle.first_form.specs.Option.{◌>>=◌}
 use Rattle.first_form.specs.Lines.{is_data}
-use Rattle.first_form.specs.Fields.{fields_of}
+use Rattle.first_form.specs.Fields.{free_fields}
 use Rattle.first_form.specs.Numbers.{whole_number}
 use Rattle.first_form.specs.Names.{is_name}
 
@@ -35,7 +35,7 @@ number_line fields = None
 unfoldable pub table_of : {A : Type 0} → (List (List ℕ) → Option A) → List (List ℕ) → Option (List A × List (List ℕ))
 table_of read [] = Some ([], [])
 table_of read (line ∷ lines) =
-    if is_data line then (read (fields_of line) >>= λ first. table_of read lines >>= λ table. Some (first ∷ table.0, table.1))
+    if is_data line then (read (free_fields line) >>= λ first. table_of read lines >>= λ table. Some (first ∷ table.0, table.1))
     else Some ([], line ∷ lines)
 
 -- the lines behind a section's line

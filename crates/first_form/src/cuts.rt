@@ -2,7 +2,7 @@
 ghost use Rattle.std.specs.Prelude.{◌≡◌, ◌<◌, ◌≤◌, ◌==◌, [], ◌∷◌, not, position, length, MatchOption};
 ghost use Rattle.std.specs.List.{position_or_len};
 ghost use Rattle.first_form.specs.Lines.{lines_of, is_blank as blank, is_data as begins_blank};
-ghost use Rattle.first_form.specs.Fields.{fields_of};
+ghost use Rattle.first_form.specs.Fields.{free_fields};
 
 /// Whether a byte stands between fields.
 pub(crate) fn is_blank(byte: u8) -> bool
@@ -91,7 +91,7 @@ fn field_len(line: &[u8]) -> usize
 
 /// The first field of a line and the line behind it, or `None` where only blanks are left.
 pub(crate) fn cut_field(line: &[u8]) -> Option<(&[u8], &[u8])>
-    ensures { MatchOption result (fields_of line.now ≡ []) (λ cut. fields_of line.now ≡ cut.0.now ∷ fields_of cut.1.now) }
+    ensures { MatchOption result (free_fields line.now ≡ []) (λ cut. free_fields line.now ≡ cut.0.now ∷ free_fields cut.1.now) }
 {
     let (_, line) = line.split_at(blank_len(line));
     if line.is_empty() {

@@ -1,7 +1,7 @@
 //! The tables of a text: what the data lines behind each section line say.
 ghost use Rattle.std.specs.Prelude.{◌≡◌, option_map, codes};
 ghost use Rattle.first_form.specs.Lines.{lines_of};
-ghost use Rattle.first_form.specs.Fields.{fields_of};
+ghost use Rattle.first_form.specs.Fields.{free_fields};
 ghost use Rattle.first_form.specs.Names.{is_name as names_well};
 ghost use Rattle.first_form.specs.Tables.{row_line as row_line_of, number_line as number_line_of, table_of, behind as lines_behind, is_heading as heads, is_word, tables_of};
 ghost use Rattle.first_form.specs.Stop.{Gives};
@@ -44,7 +44,7 @@ pub(crate) fn is_name(field: &[u8]) -> bool
 }
 
 fn row_line(line: &[u8]) -> Option<RowLine<'_>>
-    ensures { option_map row_view result ≡ row_line_of (fields_of line.now) }
+    ensures { option_map row_view result ≡ row_line_of (free_fields line.now) }
 {
     let (kind, rest) = cut_field(line)?;
     let (name, rest) = cut_field(rest)?;
@@ -65,7 +65,7 @@ fn row_line(line: &[u8]) -> Option<RowLine<'_>>
 }
 
 fn number_line(line: &[u8]) -> Option<NumberLine<'_>>
-    ensures { option_map number_view result ≡ number_line_of (fields_of line.now) }
+    ensures { option_map number_view result ≡ number_line_of (free_fields line.now) }
 {
     let (first, rest) = cut_field(line)?;
     let (second, rest) = cut_field(rest)?;

@@ -4,7 +4,7 @@ use std::test::Fail;
 
 /// 3x + 5y = 8.
 const TWO_COINS: &[u8] =
-    b"NAME T2\nROWS\n N cost\n E r\nCOLUMNS\n x r 3\n y r 5\nRHS\n r 8\nBOUNDS\n UI x 10\n UI y 12\nENDATA\n";
+    b"NAME two coins\nROWS\n N cost\n E r\nCOLUMNS\n x r 3\n y r 5\nRHS\n r 8\nBOUNDS\n UI x 10\n UI y 12\nENDATA\n";
 
 const EMPTY: &[u8] = b"NAME\nROWS\nCOLUMNS\nRHS\nBOUNDS\nENDATA\n";
 

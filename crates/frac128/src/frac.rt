@@ -35,7 +35,8 @@ impl Model for Frac {
 }
 
 impl Frac {
-    /// num/den in lowest terms; the sign of `den` goes to the numerator.
+    /// num/den in lowest terms; the sign of `den` goes to the numerator. `Wide` exactly where a lowest term is above
+    /// 2^127 - 1 in size.
     pub fn new(num: i128, den: i128) -> Result<Frac, Wide>
         requires { den ≢ pos 0 }
         ensures { OkIff result (InRange (ratio num den)) (ratio num den) }
@@ -188,7 +189,7 @@ impl Frac {
         Ok(Frac::reduced(num, den, common))
     }
 
-    /// The difference, that is the sum with the negated number.
+    /// The difference, that is the sum with the negated number; `Wide` as of that sum.
     pub fn sub(&self, other: &Frac) -> Result<Frac, Wide>
         ensures { OkIff result (SumInRange self.now (neg_ℚ other.now)) (self.now -ℚ other.now) }
     {
@@ -253,7 +254,7 @@ impl Frac {
         Ok(Frac::of_terms(signed(negative, size), den))
     }
 
-    /// The quotient by a fraction that is not 0.
+    /// The quotient by a fraction that is not 0; `Wide` exactly where the quotient leaves the range.
     pub fn div(&self, other: &Frac) -> Result<Frac, Wide>
         requires { other.now.num ≢ pos 0 }
         ensures { OkIff result (InRange (self.now /ℚ other.now)) (self.now /ℚ other.now) }

@@ -41,7 +41,8 @@ impl Model for IntRows {
 }
 
 impl IntRows {
-    /// The integer rows of a model. The numbers are kept as they are.
+    /// The integer rows of a model with at most 256 rows and 256 columns, whose items are in rising order of column and
+    /// whose rows are light. The numbers are kept as they are.
     pub fn of(alloc: Global, model: &Program) -> Result<IntRows, NoMemory>
         requires few_columns { length model.now.columns ≤ 256 }
         requires few_rows { length model.now.rows ≤ 256 }

@@ -10,3 +10,4 @@ mod sums;
 pub use bounds::Bounds;
 pub use int_rows::IntRows;
 pub use model::{Column, Columns, Item, Items, Model, Name, Row, Rows};
+pub use sequence::NoMemory;

@@ -7,3 +7,4 @@ mod search;
 mod tests;
 
 pub use search::plain_point;
+pub use sequence::NoMemory;

@@ -9,8 +9,8 @@ use int_model::{Bounds, IntRows};
 use sequence::NoMemory;
 use std::alloc::Global;
 
-/// Some point of the rows, or none where there is none. Its time grows with the number of slices, which
-/// is at most the product of the widths of the box.
+/// Some point of the rows, or none where there is none. Its time grows with the number of slices: for each column, at
+/// most the product of the numbers of values of that column and of those before it.
 pub fn plain_point(alloc: Global, rows: &IntRows) -> Result<Option<Vec<i128>>, NoMemory>
     ensures { IfOk result (λ found. MatchOption found ((x : List ℤ) → Meets rows.now x → ⊥) (λ point. Meets rows.now point.items)) }
 {

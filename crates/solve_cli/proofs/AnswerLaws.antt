@@ -11,7 +11,7 @@ use Rattle.first_form.specs.Stated.{stated}
 use Rattle.solve_cli.specs.declared.status.Status.{Status}
 use Rattle.solve_cli.specs.declared.status.Status.TheVariants.{Optimal, Infeasible, Words, Text, ReadFault, WriteFault, NoMemory}
 use Rattle.solve_cli.specs.Words.{Solve, command_of}
-use Rattle.solve_cli.specs.Report.{text_of}
+use Rattle.solve_cli.specs.Report.{report_of}
 use Rattle.solve_cli.specs.Answer.{Given, Faults, States, Reason, SaysSome, Answer, IsJudged, TakesInput, IsComplete}
 use Rattle.solve_cli.specs.Solving.{IsSaid}
 
@@ -19,7 +19,7 @@ use Rattle.solve_cli.specs.Solving.{IsSaid}
 
 -- a status whose lines were said
 all_said : (given : Given) (faults : Faults) (status : Status) (lines : List (List ℕ)) (before after : Option (List ℕ)) → Reason given faults status lines
-    → after ≡ option_map (appended (text_of lines)) before → Answer given faults before after status
+    → after ≡ option_map (appended (report_of lines)) before → Answer given faults before after status
 all_said given faults Optimal lines before after reason said = record { lines = lines; reason = reason; said = said }
 all_said given faults Infeasible lines before after reason said = record { lines = lines; reason = reason; said = said }
 all_said given faults Words lines before after reason said = record { lines = lines; reason = reason; said = said }
@@ -27,12 +27,12 @@ all_said given faults (Text fault) lines before after reason said = record { lin
 all_said given faults ReadFault lines before after reason said = record { lines = lines; reason = reason; said = said }
 all_said given faults WriteFault lines before after reason said = absurd reason
 all_said given faults NoMemory lines before after reason said =
-    record { status = NoMemory; lines = lines; faults = faults; reason = reason; said = appends_all (text_of lines) before after said }
+    record { status = NoMemory; lines = lines; reason = reason; said = appends_all (report_of lines) before after said }
 
 module _ (given : Given) (faults now : Faults) (status result : Status) (lines : List (List ℕ)) (before after : Option (List ℕ))
-    (later : given.faults ≤ faults.count) (reason : Reason given faults status lines) (said : IsSaid (text_of lines) status faults now before after result) where
-  some_said : AppendsSome (text_of lines) before after → SaysSome given before after
-  some_said part = record { status = status; lines = lines; faults = faults; reason = reason; said = part }
+    (later : given.faults ≤ faults.count) (reason : Reason given faults status lines) (said : IsSaid (report_of lines) status faults now before after result) where
+  some_said : AppendsSome (report_of lines) before after → SaysSome given faults before after
+  some_said part = record { status = status; lines = lines; reason = reason; said = part }
 
   pub answers : Answer given now before after result
   answers =
@@ -41,13 +41,15 @@ module _ (given : Given) (faults now : Faults) (status result : Status) (lines :
       subst (λ f. Answer given f before after result) (sym whole.2)
       (subst (Answer given faults before after) (sym whole.0) (all_said given faults status lines before after reason whole.1)))
       (⊎_elim
-      (λ failed. subst (Answer given now before after) (sym failed.0) (some_said failed.1, rose_after given.faults faults.count now.count later failed.2, failed.3))
-      (λ full. subst (Answer given now before after) (sym full.0) (some_said full.1)))
+      (λ failed.
+      subst (Answer given now before after) (sym failed.0)
+      (record { earlier = faults; later = later; part = some_said failed.1; rose = failed.2; last = failed.3 }))
+      (λ full. subst (λ f. Answer given f before after result) (sym full.2) (subst (Answer given faults before after) (sym full.0) (some_said full.1))))
       said.outcome
 
 -- the same of a report that is the text of those lines, over a desk that said nothing before
 pub run_answers : (given : Given) (faults now : Faults) (status result : Status) (lines : List (List ℕ)) (report : List ℕ) (start before after : Option (List ℕ)) → given.faults ≤ faults.count
-    → report ≡ text_of lines → before ≡ start → Reason given faults status lines → IsSaid report status faults now before after result → Answer given now start after result
+    → report ≡ report_of lines → before ≡ start → Reason given faults status lines → IsSaid report status faults now before after result → Answer given now start after result
 run_answers given faults now status result lines report start before after later is_text same reason said =
     subst (λ b. Answer given now b after result) same
     (answers given faults now status result lines before after later reason (subst (λ text. IsSaid text status faults now before after result) is_text said))
@@ -93,5 +95,6 @@ completes given now before after Words answer command text model spelled told st
 completes given now before after (Text fault) answer command text model spelled told stated_text calm =
     none-some model (sym (stated_is given answer.reason.command command text None answer.reason.spelled spelled told answer.reason.states) ∙ stated_text)
 completes given now before after ReadFault answer command text model spelled told stated_text calm = calm answer.reason.rose
-completes given now before after WriteFault answer command text model spelled told stated_text calm = calm answer.1
+completes given now before after WriteFault answer command text model spelled told stated_text calm =
+    calm (rose_after given.faults answer.earlier.count now.count answer.later answer.rose)
 completes given now before after NoMemory answer command text model spelled told stated_text calm = tt

@@ -19,7 +19,7 @@ use Rattle.solve_cli.specs.declared.status.Status.TheVariants.{Optimal, Infeasib
 use Rattle.solve_cli.specs.Words.{Solve, command_of}
 use Rattle.solve_cli.specs.Answer.{Given, Faults, States, Reason}
 use Rattle.solve_cli.specs.Solving.{Solves, SolvesTo, HasReason}
-use Rattle.solve_cli.specs.Report.{text_of}
+use Rattle.solve_cli.specs.Report.{report_of}
 use Rattle.solve_cli.specs.declared.program.Reply.{Reply}
 
 -- a text of more than 65,536 bytes is not in the first form
@@ -103,13 +103,13 @@ solves_reason given faults command text NoMemory lines spelled taken solves = ab
 
 -- a reply with this status and these lines solves the text where they do
 pub solved_by : {E : Type 0} (text : List ℕ) (status : Status) (lines : List (List ℕ)) (result : Result Reply E) → Solves text status lines
-    → IfOk result (λ reply. reply.status ≡ status) → IfOk result (λ reply. reply.report.items ≡ text_of lines) → IfOk result (SolvesTo text)
+    → IfOk result (λ reply. reply.status ≡ status) → IfOk result (λ reply. reply.report.items ≡ report_of lines) → IfOk result (SolvesTo text)
 solved_by text status lines (Ok reply) solves is_status is_report = (lines, is_report, subst (λ s. Solves text s lines) (sym is_status) solves)
 solved_by text status lines (Err e) solves is_status is_report = tt
 
 -- a reply with this status and these lines has the reason that they have
 pub reasoned_by : {E : Type 0} (given : Given) (faults : Faults) (status : Status) (lines : List (List ℕ)) (result : Result Reply E) → Reason given faults status lines
-    → IfOk result (λ reply. reply.status ≡ status) → IfOk result (λ reply. reply.report.items ≡ text_of lines) → IfOk result (HasReason given faults)
+    → IfOk result (λ reply. reply.status ≡ status) → IfOk result (λ reply. reply.report.items ≡ report_of lines) → IfOk result (HasReason given faults)
 reasoned_by given faults status lines (Ok reply) reason is_status is_report = (lines, is_report, subst (λ s. Reason given faults s lines) (sym is_status) reason)
 reasoned_by given faults status lines (Err e) reason is_status is_report = tt
 

@@ -1,5 +1,5 @@
 -- When a run answers which status, and what it says then.
-use Rattle.std.specs.Prelude.{◌≡◌, ℕ, List, [], ◌∷◌, drop, ℤ, Option, Some, None, option_map, IfSome}
+use Rattle.std.specs.Prelude.{◌≡◌, ◌≤◌, ℕ, List, [], ◌∷◌, drop, ℤ, Option, Some, None, option_map, IfSome}
 use Rattle.desk_io.specs.Desk.{Fault, fault, appended, AppendsSome, Same, SameButAt, Rose}
 use Rattle.desk_io.specs.declared.desk.Call.TheVariants.{Take, Say}
 use Rattle.int_model.specs.declared.model.Model.{Model}
@@ -10,7 +10,7 @@ use Rattle.solve_cli.specs.declared.status.TextFault.{TextFault}
 use Rattle.solve_cli.specs.declared.status.Status.{Status}
 use Rattle.solve_cli.specs.declared.status.Status.TheVariants.{Optimal, Infeasible, Words, Text, ReadFault, WriteFault, NoMemory}
 use Rattle.solve_cli.specs.Words.{Solve, command_of}
-use Rattle.solve_cli.specs.Report.{text_of, optimal_lines, line_of}
+use Rattle.solve_cli.specs.Report.{report_of, optimal_lines, line_of}
 
 -- what a run was given: its words, what was left of each input, and how often the desk had failed
 pub record Given : Type 0 where
@@ -76,15 +76,22 @@ Reason given faults NoMemory lines = lines ≡ line_of NoMemory ∷ []
 pub record SaysAll (given : Given) (faults : Faults) (status : Status) (before after : Option (List ℕ)) : Type 0 where
   pub lines : List (List ℕ)
   pub reason : Reason given faults status lines
-  pub said : after ≡ option_map (appended (text_of lines)) before
+  pub said : after ≡ option_map (appended (report_of lines)) before
 
--- some status had a reason when it was to be said, and some first bytes of its lines were said
-pub record SaysSome (given : Given) (before after : Option (List ℕ)) : Type 0 where
+-- some status had a reason, and some first bytes of its lines were said
+pub record SaysSome (given : Given) (faults : Faults) (before after : Option (List ℕ)) : Type 0 where
   pub status : Status
   pub lines : List (List ℕ)
-  pub faults : Faults
   pub reason : Reason given faults status lines
-  pub said : AppendsSome (text_of lines) before after
+  pub said : AppendsSome (report_of lines) before after
+
+-- the desk failed in a say, and some first bytes of what there was a reason to say before were said
+pub record FailsToSay (given : Given) (faults : Faults) (before after : Option (List ℕ)) : Type 0 where
+  pub earlier : Faults
+  pub later : given.faults ≤ earlier.count
+  pub part : SaysSome given earlier before after
+  pub rose : Rose earlier.count faults.count
+  pub last : faults.last ≡ Some (fault Say [])
 
 -- what a run answers
 abbrev pub Answer : Given → Faults → Option (List ℕ) → Option (List ℕ) → Status → Type 0
@@ -93,9 +100,8 @@ Answer given faults before after Infeasible = SaysAll given faults Infeasible be
 Answer given faults before after Words = SaysAll given faults Words before after
 Answer given faults before after (Text fault) = SaysAll given faults (Text fault) before after
 Answer given faults before after ReadFault = SaysAll given faults ReadFault before after
-Answer given faults before after WriteFault =
-    SaysSome given before after × Rose given.faults faults.count × (faults.last ≡ Some (fault Say []))
-Answer given faults before after NoMemory = SaysSome given before after
+Answer given faults before after WriteFault = FailsToSay given faults before after
+Answer given faults before after NoMemory = SaysSome given faults before after
 
 -- the text of MODEL was judged
 abbrev pub IsJudged : Status → Type 0

@@ -8,8 +8,8 @@ use Rattle.solve_cli.specs.declared.status.Status.{Status}
 use Rattle.solve_cli.specs.declared.status.Status.TheVariants.{Optimal, Infeasible, Words, Text, ReadFault, WriteFault, NoMemory}
 
 -- the lines as one text
-abbrev pub text_of : List (List ℕ) → List ℕ
-text_of lines = flat_map (λ line. line ++ 10 ∷ []) lines
+abbrev pub report_of : List (List ℕ) → List ℕ
+report_of lines = flat_map (λ line. line ++ 10 ∷ []) lines
 
 -- a line for each column: its value and its name
 abbrev pub point_lines : List Column → List ℤ → List (List ℕ)

@@ -9,7 +9,7 @@ use Rattle.solve_cli.specs.declared.status.FaultKind.TheVariants.{Unbuilt}
 use Rattle.solve_cli.specs.declared.status.Status.{Status}
 use Rattle.solve_cli.specs.declared.status.Status.TheVariants.{Optimal, Infeasible, Words, Text, ReadFault, WriteFault, NoMemory}
 use Rattle.solve_cli.specs.declared.program.Reply.{Reply}
-use Rattle.solve_cli.specs.Report.{text_of, optimal_lines, line_of}
+use Rattle.solve_cli.specs.Report.{report_of, optimal_lines, line_of}
 use Rattle.solve_cli.specs.Answer.{Given, Faults, Reason}
 
 -- what solving a text finds, and the lines to be said then
@@ -25,11 +25,11 @@ Solves text NoMemory lines = ⊥
 
 -- the reply is what solving the text finds
 abbrev pub SolvesTo : List ℕ → Reply → Type 0
-SolvesTo text reply = (lines : List (List ℕ)) × (reply.report.items ≡ text_of lines) × Solves text reply.status lines
+SolvesTo text reply = (lines : List (List ℕ)) × (reply.report.items ≡ report_of lines) × Solves text reply.status lines
 
 -- the reply has a reason
 abbrev pub HasReason : Given → Faults → Reply → Type 0
-HasReason given faults reply = (lines : List (List ℕ)) × (reply.report.items ≡ text_of lines) × Reason given faults reply.status lines
+HasReason given faults reply = (lines : List (List ℕ)) × (reply.report.items ≡ report_of lines) × Reason given faults reply.status lines
 
 -- what became of saying a report: it was said and the status stands, or the desk failed, or memory ran out
 pub record IsSaid (report : List ℕ) (status : Status) (old new : Faults) (before after : Option (List ℕ)) (result : Status) : Type 0 where

@@ -2,7 +2,7 @@
 ghost use Rattle.std.specs.Prelude.{◌≡◌, ◌≤◌, ℕ, ◌∷◌, [], List, Some, drop, map, option_map, IfOk, MatchResult, string_bytes};
 ghost use Rattle.desk_io.specs.Desk.{Same, SameButAt};
 ghost use Rattle.solve_cli.specs.Words.{Solve, command_of};
-ghost use Rattle.solve_cli.specs.Report.{text_of, line_of};
+ghost use Rattle.solve_cli.specs.Report.{report_of, line_of};
 ghost use Rattle.solve_cli.specs.Answer.{Answer, IsJudged, TakesInput, IsComplete};
 ghost use Rattle.solve_cli.specs.Solving.{SolvesTo, HasReason, IsSaid};
 
@@ -32,7 +32,7 @@ const UNBUILT: TextFault = TextFault {
 // The reply of a status without a point.
 fn short_reply(alloc: Global, status: Status) -> Result<Reply, NoMemory>
     ensures status { IfOk result (λ reply. reply.status ≡ status) }
-    ensures report { IfOk result (λ reply. reply.report.items ≡ text_of (line_of status ∷ [])) }
+    ensures report { IfOk result (λ reply. reply.report.items ≡ report_of (line_of status ∷ [])) }
 {
     Ok(Reply {
         status,

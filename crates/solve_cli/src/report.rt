@@ -1,7 +1,7 @@
 //! The report of a run.
 ghost use Rattle.std.specs.Prelude.{◌≡◌, ◌++◌, ◌∷◌, [], pos, IfOk, OnOk, decimal};
 ghost use Rattle.std.specs.Fmt.{signed_decimal};
-ghost use Rattle.solve_cli.specs.Report.{text_of, point_lines, optimal_lines, line_of, name_of};
+ghost use Rattle.solve_cli.specs.Report.{report_of, point_lines, optimal_lines, line_of, name_of};
 
 use crate::status::{FaultKind, Status, TextFault};
 use int_model::Column;
@@ -11,7 +11,7 @@ use std::alloc::Global;
 
 // Puts bytes and a line feed at the end.
 fn put_line(text: &mut Vec<u8>, line: &[u8]) -> Result<(), NoMemory>
-    ensures { OnOk result (text.new.items ≡ text.old.items ++ text_of (line.now ∷ [])) }
+    ensures { OnOk result (text.new.items ≡ text.old.items ++ report_of (line.now ∷ [])) }
 {
     text.extend_from_slice(line)?;
     text.push(b'\n')?;
@@ -29,7 +29,7 @@ fn put_number(text: &mut Vec<u8>, number: i128) -> Result<(), NoMemory>
 
 // Puts the line of a column at the end: its value and its name.
 fn put_point(text: &mut Vec<u8>, column: &Column, value: i128) -> Result<(), NoMemory>
-    ensures { OnOk result (text.new.items ≡ text.old.items ++ text_of (point_lines (column.now ∷ []) (value ∷ []))) }
+    ensures { OnOk result (text.new.items ≡ text.old.items ++ report_of (point_lines (column.now ∷ []) (value ∷ []))) }
 {
     text.extend_from_slice(b"POINT ")?;
     put_number(text, value)?;
@@ -39,7 +39,7 @@ fn put_point(text: &mut Vec<u8>, column: &Column, value: i128) -> Result<(), NoM
 
 // Puts the lines of the columns at the end, in order.
 fn put_points(text: &mut Vec<u8>, columns: &[Column], point: &[i128]) -> Result<(), NoMemory>
-    ensures { OnOk result (text.new.items ≡ text.old.items ++ text_of (point_lines columns.now point.now)) }
+    ensures { OnOk result (text.new.items ≡ text.old.items ++ report_of (point_lines columns.now point.now)) }
 {
     for (column, value) in columns.iter().zip(point) {
         put_point(text, column, *value)?;
@@ -54,7 +54,7 @@ pub(crate) fn optimal_report(
     columns: &[Column],
     point: &[i128],
 ) -> Result<Vec<u8>, NoMemory>
-    ensures { IfOk result (λ text. text.items ≡ text_of (optimal_lines value columns.now point.now)) }
+    ensures { IfOk result (λ text. text.items ≡ report_of (optimal_lines value columns.now point.now)) }
 {
     let mut text = Vec::new(alloc);
     put_line(&mut text, b"OPTIMAL")?;
@@ -74,7 +74,7 @@ fn kind_name(kind: FaultKind) -> &'static str
 }
 
 fn text_report(alloc: Global, fault: TextFault) -> Result<Vec<u8>, NoMemory>
-    ensures { IfOk result (λ text. text.items ≡ text_of (line_of (Status.Text fault) ∷ [])) }
+    ensures { IfOk result (λ text. text.items ≡ report_of (line_of (Status.Text fault) ∷ [])) }
 {
     let mut text = Vec::from_slice(alloc, b"TEXT ")?;
     text.extend_from_slice(kind_name(fault.kind).as_bytes())?;
@@ -84,9 +84,9 @@ fn text_report(alloc: Global, fault: TextFault) -> Result<Vec<u8>, NoMemory>
     Ok(text)
 }
 
-/// The report of a status without a point. WriteFault says nothing.
+/// The report of a status in its one line. A best point has more lines, and the line of WriteFault is empty and never said.
 pub(crate) fn short_report(alloc: Global, status: Status) -> Result<Vec<u8>, NoMemory>
-    ensures { IfOk result (λ text. text.items ≡ text_of (line_of status ∷ [])) }
+    ensures { IfOk result (λ text. text.items ≡ report_of (line_of status ∷ [])) }
 {
     let line: &[u8] = match status {
         Status::Text(fault) => return text_report(alloc, fault),

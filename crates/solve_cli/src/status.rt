@@ -27,6 +27,7 @@ pub struct TextFault {
     pub line: u32,
 }
 
+/// What is wrong with a text.
 #[derive(Clone, Copy, Debug, Drop, PartialEq, Eq)]
 pub enum FaultKind {
     /// The text is not in the form that is read by now.

@@ -8,8 +8,8 @@ ghost use Rattle.solve_cli.specs.declared.take.TakeStop.TheVariants.{Failed as f
 use desk_io::{Desk, Failed};
 use std::alloc::{AllocError, Global};
 
-/// One more than the greatest number of bytes of a text.
-const MOST_BYTES: usize = 65_537;
+/// One more than the greatest number of bytes of a text: enough to see that a text is too long.
+const TAKEN_BYTES: usize = 65_537;
 
 const PIECE_BYTES: usize = 4_096;
 
@@ -55,8 +55,8 @@ pub(crate) fn take_text<D: Desk>(
     let mut text = Vec::new(alloc);
     let mut piece = [0u8; PIECE_BYTES];
     let mut ended = false;
-    while !ended && text.len() < MOST_BYTES {
-        let room = PIECE_BYTES.min(MOST_BYTES - text.len());
+    while !ended && text.len() < TAKEN_BYTES {
+        let room = PIECE_BYTES.min(TAKEN_BYTES - text.len());
         let count = desk.take(name, &mut piece[..room])?;
         text.extend_from_slice(&piece[..count])?;
         ended = count == 0;

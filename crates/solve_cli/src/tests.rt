@@ -4,18 +4,31 @@ use std::alloc::{AllocError, Global};
 use std::test::Fail;
 
 const TWO_COINS: &str =
-    "NAME T2\nROWS\n N cost\n E r\nCOLUMNS\n x r 3\n y r 5\nRHS\n r 8\nBOUNDS\n UI x 10\n UI y 10\nENDATA\n";
+    "NAME two coins\nROWS\n N cost\n E r\nCOLUMNS\n x r 3\n y r 5\nRHS\n r 8\nBOUNDS\n UI x 10\n UI y 10\nENDATA\n";
 
 const TWO_COINS_UNREACHABLE: &str =
-    "NAME T3\nROWS\n N cost\n E r\nCOLUMNS\n x r 3\n y r 5\nRHS\n r 7\nBOUNDS\n UI x 10\n UI y 10\nENDATA\n";
+    "NAME two coins, unreachable\nROWS\n N cost\n E r\nCOLUMNS\n x r 3\n y r 5\nRHS\n r 7\nBOUNDS\n UI x 10\n UI y 10\nENDATA\n";
 
 const EVEN_SUM: &str =
-    "NAME T4\nROWS\n N cost\n E r\nCOLUMNS\n x r 2\n y r 4\nRHS\n r 7\nBOUNDS\n UI x 10\n UI y 10\nENDATA\n";
+    "NAME even sum\nROWS\n N cost\n E r\nCOLUMNS\n x r 2\n y r 4\nRHS\n r 7\nBOUNDS\n UI x 10\n UI y 10\nENDATA\n";
 
 const EMPTY: &str = "NAME\nROWS\nCOLUMNS\nENDATA\n";
 
 const PARITY_PAIR: &str =
-    "NAME T5\nROWS\n E a\n E b\nCOLUMNS\n x a 1 b 1\n y a 1 b -1\nRHS\n a 1\nBOUNDS\n BV x\n BV y\nENDATA\n";
+    "NAME parity pair\nROWS\n E a\n E b\nCOLUMNS\n x a 1 b 1\n y a 1 b -1\nRHS\n a 1\nBOUNDS\n BV x\n BV y\nENDATA\n";
+
+// The files of the folder `examples`.
+const BOXES_44: &str =
+    "NAME boxes of 6, 9 and 20 that make 44 together\nROWS\n E total\nCOLUMNS\n six total 6\n nine total 9\n twenty total 20\nRHS\n total 44\nBOUNDS\n UI six 100\n UI nine 100\n UI twenty 100\nENDATA\n";
+
+const BOXES_43: &str =
+    "NAME boxes of 6, 9 and 20 that make 43 together\nROWS\n E total\nCOLUMNS\n six total 6\n nine total 9\n twenty total 20\nRHS\n total 43\nBOUNDS\n UI six 100\n UI nine 100\n UI twenty 100\nENDATA\n";
+
+const EVEN_SUM_FAR: &str =
+    "NAME an even sum is no odd number\nROWS\n E sum\nCOLUMNS\n x sum 2\n y sum 4\nRHS\n sum 7\nBOUNDS\n UI x 1000000\n UI y 1000000\nENDATA\n";
+
+const PARITY_LINES: &str =
+    "NAME two numbers whose sum is odd and whose difference is 0\nROWS\n E sum\n E difference\nCOLUMNS\n x sum 1\n x difference 1\n y sum 1\n y difference -1\nRHS\n sum 1\nBOUNDS\n UI x 1\n UI y 1\nENDATA\n";
 
 fn words(alloc: Global, text: &str) -> Result<Vec<String>, AllocError> {
     let mut words = Vec::new(alloc);
@@ -37,6 +50,15 @@ fn runs_answer_and_report(rt: HostRuntime) -> Result<(), Fail> {
         ),
         ("solve m p", TWO_COINS_UNREACHABLE, 1, "INFEASIBLE\n"),
         ("solve m p", EVEN_SUM, 1, "INFEASIBLE\n"),
+        (
+            "solve m p",
+            BOXES_44,
+            0,
+            "OPTIMAL\nVALUE 0\nPOINT 1 six\nPOINT 2 nine\nPOINT 1 twenty\n",
+        ),
+        ("solve m p", BOXES_43, 1, "INFEASIBLE\n"),
+        ("solve m p", EVEN_SUM_FAR, 1, "INFEASIBLE\n"),
+        ("solve m p", PARITY_LINES, 1, "INFEASIBLE\n"),
         ("solve m p", EMPTY, 4, "TEXT Unbuilt 0\n"),
         ("solve m p", PARITY_PAIR, 4, "TEXT Unbuilt 0\n"),
         ("solve other p", TWO_COINS, 6, "READFAULT\n"),
@@ -82,7 +104,7 @@ fn long_text(alloc: Global, blanks: usize) -> Result<Vec<u8>, AllocError> {
     for _ in 0..blanks {
         text.push(b' ')?;
     }
-    text.extend_from_slice(&TWO_COINS.as_bytes()[7..])?;
+    text.extend_from_slice(&TWO_COINS.as_bytes()["NAME two coins".len()..])?;
     Ok(text)
 }
 
@@ -101,12 +123,11 @@ fn lines_are_limited(rt: HostRuntime) -> Result<(), Fail> {
 #[test]
 fn words_are_read(rt: HostRuntime) -> Result<(), Fail> {
     let alloc = rt.alloc();
-    match read_words(alloc, &words(alloc, "solve model.mps proof.txt")?) {
-        Ok(Command::Solve { model, proof }) => {
-            assert_eq!(rt; model.text().as_bytes(), "model.mps".as_bytes());
-            assert_eq!(rt; proof.text().as_bytes(), "proof.txt".as_bytes());
-        }
-        Err(stop) => assert_eq!(rt; stop, WordsStop::NoMemory, "the words are a command"),
-    }
+    let Command::Solve { model, proof } = read_words(
+        alloc,
+        &words(alloc, "solve model.mps proof.txt")?,
+    )?;
+    assert_eq!(rt; model.text().as_bytes(), "model.mps".as_bytes());
+    assert_eq!(rt; proof.text().as_bytes(), "proof.txt".as_bytes());
     Ok(())
 }

@@ -4,7 +4,7 @@ use Rattle.first_form.specs.Stop.{Refuses}
 use Rattle.first_form.specs.Stated.{stated}
 use Rattle.int_model.specs.Points.{value_at}
 use Rattle.solve_cli.specs.declared.status.Status.TheVariants.{Infeasible}
-use Rattle.solve_cli.specs.Report.{text_of, line_of, optimal_lines}
+use Rattle.solve_cli.specs.Report.{report_of, line_of, optimal_lines}
 use Rattle.solve_cli.proofs.SolveLaws.{solved_by, stated_best, stated_constant}
 use Rattle.solve_cli.proofs.program.solve.Goals as goal
 use mir.Syntax.{w128}
@@ -32,8 +32,8 @@ returns c =
     let report = simp to_z-of_z at c.in_ok-report.ensures in (
       optimal_lines (value_at model point) model.columns point,
       report
-          ∙ ap (λ value. text_of (optimal_lines value c.items.result.now c.deref.result.now)) (stated_constant c.args.text.now model told point)
-          ∙ ap (λ columns. text_of (optimal_lines (value_at model point) columns c.deref.result.now)) c.items.ensures
-          ∙ ap (λ values. text_of (optimal_lines (value_at model point) model.columns values)) c.deref.ensures.value,
+          ∙ ap (λ value. report_of (optimal_lines value c.items.result.now c.deref.result.now)) (stated_constant c.args.text.now model told point)
+          ∙ ap (λ columns. report_of (optimal_lines (value_at model point) columns c.deref.result.now)) c.items.ensures
+          ∙ ap (λ values. report_of (optimal_lines (value_at model point) model.columns values)) c.deref.ensures.value,
       (model, point, told, stated_best c.args.text.now model point told ((c.in_ok-rows.ensures.points point).1 meets), refl),
     )

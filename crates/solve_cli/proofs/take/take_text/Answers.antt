@@ -6,7 +6,7 @@ use Rattle.std.specs.Option.{ForSome}
 use Rattle.desk_io.specs.Desk.{TakesFrom}
 use Rattle.desk_io.proofs.Taken.{taken_more, taken_all}
 use Rattle.solve_cli.proofs.TakeLaws.{taken_front, is_front, is_behind}
-use Rattle.solve_cli.proofs.take.take_text.Goals.{then-loop-ended-test+else-len-lt-MOST_BYTES, else-loop-ended-test}
+use Rattle.solve_cli.proofs.take.take_text.Goals.{then-loop-ended-test+else-len-lt-TAKEN_BYTES, else-loop-ended-test}
 use Rattle.solve_cli.proofs.take.take_text.Goals as goal
 
 pub loop-ended-preserved : goal.loop-ended-preserved
@@ -19,7 +19,7 @@ loop-ended-preserved g c =
     let a = c.take.auto.buf in
     let b = c.len-in-loop-ended.ensures in
     let d = c.len.ensures in
-    let e = c.if-len-lt-MOST_BYTES.true in
+    let e = c.if-len-lt-TAKEN_BYTES.true in
     let f = length-take c.min-room.result c.loop-ended.piece in
     let m = c.min-room.ensures in
     (omega (arith, a, b, d, e, f, m, before.room), omega (arith, a, b, d, e, f, m, before.room)) in
@@ -45,10 +45,10 @@ pub returns-clause-text : goal.returns-clause-text
 returns-clause-text g c =
     is_front 65537 c.loop-ended.text.items (g.D.Desk.left c.args.desk.now c.args.name.now) (g.D.Desk.left c.loop-ended.desk c.args.name.now) c.loop-ended.invariant.small
     c.loop-ended.invariant.taken
-    (λ bytes told. elim c.loop-ended-test.branch [ then-loop-ended-test+else-len-lt-MOST_BYTES w ↦ inr (let a = w.len.ensures in let b = w.if-len-lt-MOST_BYTES.false in omega arith) | else-loop-ended-test w ↦ inl (c.loop-ended.invariant.ended bytes w.loop-ended-test.false told) ])
+    (λ bytes told. elim c.loop-ended-test.branch [ then-loop-ended-test+else-len-lt-TAKEN_BYTES w ↦ inr (let a = w.len.ensures in let b = w.if-len-lt-TAKEN_BYTES.false in omega arith) | else-loop-ended-test w ↦ inl (c.loop-ended.invariant.ended bytes w.loop-ended-test.false told) ])
 
 pub returns-clause-left : goal.returns-clause-left
 returns-clause-left g c =
     is_behind 65537 c.loop-ended.text.items (g.D.Desk.left c.args.desk.now c.args.name.now) (g.D.Desk.left c.loop-ended.desk c.args.name.now) c.loop-ended.invariant.small
     c.loop-ended.invariant.taken c.loop-ended.invariant.untold
-    (λ bytes told. elim c.loop-ended-test.branch [ then-loop-ended-test+else-len-lt-MOST_BYTES w ↦ inr (let a = w.len.ensures in let b = w.if-len-lt-MOST_BYTES.false in omega arith) | else-loop-ended-test w ↦ inl (c.loop-ended.invariant.ended bytes w.loop-ended-test.false told) ])
+    (λ bytes told. elim c.loop-ended-test.branch [ then-loop-ended-test+else-len-lt-TAKEN_BYTES w ↦ inr (let a = w.len.ensures in let b = w.if-len-lt-TAKEN_BYTES.false in omega arith) | else-loop-ended-test w ↦ inl (c.loop-ended.invariant.ended bytes w.loop-ended-test.false told) ])
