@@ -1,4 +1,4 @@
-use crate::{Desk, DeskStop, Failed, MemDesk};
+use crate::{Desk, DeskStop, Failed, MemDesk, RealDesk};
 use std::test::Fail;
 
 #[test]
@@ -59,5 +59,24 @@ fn a_take_without_an_input_fails(rt: HostRuntime) -> Result<(), Fail> {
     desk.put("proof", b"one")?;
     assert_eq!(rt; desk.take("proof", &mut [0u8; 1]), Err(Failed));
     assert_eq!(rt; desk.faults(), 1);
+    Ok(())
+}
+
+#[test]
+fn files_are_written_anew_and_read(rt: HostRuntime) -> Result<(), Fail> {
+    let mut older = RealDesk::new(&rt);
+    older.put("out/first", b"a longer text of an older run")?;
+    let mut desk = RealDesk::new(&rt);
+    desk.put("out/first", b"one")?;
+    desk.put("out/second", b"x")?;
+    desk.put("out/first", b"two")?;
+    let mut buf = [0u8; 4];
+    assert_eq!(rt; desk.take("out/first", &mut buf), Ok(4));
+    assert_eq!(rt; buf.as_slice(), b"onet".as_slice());
+    assert_eq!(rt; desk.take("out/second", &mut buf), Ok(1));
+    assert_eq!(rt; desk.take("out/first", &mut buf), Ok(2));
+    assert_eq!(rt; buf.as_slice(), b"woet".as_slice());
+    assert_eq!(rt; desk.take("out/first", &mut buf), Ok(0));
+    assert_eq!(rt; desk.take("out/missing", &mut buf), Err(Failed));
     Ok(())
 }
