@@ -1,0 +1,190 @@
+-- The laws of the scale of a row with rational coefficients: it makes them whole and primitive, and keeps points and order.
+use Rattle.std.proofs.Common.{◌≡◌, ◌≢◌, ⊎_elim, ℕ, zero, suc, ◌*◌, ◌/◌, ◌<◌, nat_abs, int_div, ℤ, pos, negsuc, ◌+ℤ◌, ◌*ℤ◌, neg_ℤ, ◌≤ℤ◌, ◌<ℤ◌, List, [], ◌∷◌, refl, sym, ap, ap₂, ◌∙◌, subst, subst₂, arith, mul_comm, mul_assoc, mul-pos, zero-mul, mul-zero}
+use Rattle.std.specs.Prelude.{map, Option, Some, None, ◌↔◌, IfSome}
+use Rattle.std.specs.Option.{option_map}
+use Rattle.std.specs.Int.{◌∣◌}
+use Rattle.std.proofs.Math.Nat.{dvd-mul_left, dvd-mul_right, dvd_of_mul-dvd-mul_left, eq-one_of_dvd-one, mul-div_cancel'}
+use Rattle.std.proofs.lemmas.Nat.Gcd.{dvd_trans, dvd_antisymm, dvd_refl}
+use Rattle.exact_math.specs.Gcd.{gcd, lcm}
+use Rattle.exact_math.specs.GcdLaws.{gcd_dvd_left, gcd_dvd_right, dvd_gcd, gcd_comm, gcd-mul_left, gcd-mul-div_left, gcd-mul-div_right, gcd_pos_right, dvd_from_product, nat_abs-neg}
+use Rattle.exact_math.specs.Ring.{integers}
+use Rattle.exact_math.specs.Rational.{ℚ, whole, frac, ◌+ℚ◌, ◌*ℚ◌, inv_ℚ, ◌≤ℚ◌, ◌<ℚ◌, floor, ceil, IsWhole}
+use Rattle.exact_math.proofs.IntegerRing.{expand, linear, mul_neg}
+use Rattle.exact_math.proofs.IntegerOrder.{abs_mul}
+use Rattle.exact_math.proofs.RationalLaws.{den_pos, terms_lowest, frac-self, frac-mul, frac_is, whole-frac, same_from_cross, cross_from_same, zero_from_num}
+use Rattle.exact_math.proofs.RationalRing.{rationals, mul_inv}
+use Rattle.exact_math.proofs.RationalRing as ring
+use Rattle.exact_math.proofs.RationalOrder as order
+use Rattle.exact_math.proofs.RationalFloor.{floor_le, le_floor, le_ceil, ceil_le}
+use Rattle.exact_math.proofs.LcmLaws.{dvd_lcm_left, dvd_lcm_right, lcm_dvd, lcm_pos}
+use Rattle.exact_math.proofs.RingSolver.{ring as solve, reads}
+use Rattle.exact_vectors.specs.Vectors.{dot}
+use Rattle.exact_vectors.proofs.Dot.{dot-scale_left}
+use Rattle.int_model.specs.Scale.{common_divisor, common_denominator, common_numerator, over_or_one, scale, scaled, FractionRow, sum_at, MeetsFractionRow, integer_row}
+use Rattle.int_model.specs.WholeRows.{WholeRow, MeetsRow}
+
+-- ---- sums
+
+-- a sum of products of whole numbers is whole
+dot_whole : (c x : List ℤ) → dot rationals (map whole c) (map whole x) ≡ whole (dot integers c x)
+dot_whole [] x = refl
+dot_whole (c ∷ cs) [] = refl
+dot_whole (c ∷ cs) (x ∷ xs) =
+    ap₂ ◌+ℚ◌ (sym (ring.whole_mul c x)) (dot_whole cs xs) ∙ sym (ring.whole_add (c *ℤ x) (dot integers cs xs))
+
+-- where the multiples of the coefficients are whole, so is that of the sum
+multiple_of_sum : (k : ℚ) (a : List ℚ) (c x : List ℤ) → map whole c ≡ map (λ q. k *ℚ q) a → whole (dot integers c x) ≡ k *ℚ sum_at a x
+multiple_of_sum k a c x e =
+    sym (dot_whole c x) ∙ ap (λ v. dot rationals v (map whole x)) e ∙ dot-scale_left rationals k a (map whole x)
+
+-- ---- the order under a positive factor
+
+-- a positive factor is cancelled
+cancel : (k p q : ℚ) → whole (pos 0) <ℚ k → k *ℚ p ≡ k *ℚ q → p ≡ q
+cancel k p q h e = back p ∙ ap (λ t. inv_ℚ k *ℚ t) e ∙ sym (back q)
+  where
+    not_zero : k ≢ whole (pos 0)
+    not_zero z = order.not_le_of_lt (whole (pos 0)) k h (subst (λ t. t ≤ℚ whole (pos 0)) (sym z) (order.le_refl (whole (pos 0))))
+    back : (t : ℚ) → t ≡ inv_ℚ k *ℚ (k *ℚ t)
+    back t =
+        sym (ring.mul_one t) ∙ ap (λ s. t *ℚ s) (sym (mul_inv k not_zero)) ∙ solve rationals (k ∷ inv_ℚ k ∷ t ∷ []) (search reads depth 30) (search reads depth 30) refl
+
+-- an inequality is multiplied
+times_le : (k p q : ℚ) → whole (pos 0) <ℚ k → p ≤ℚ q → (k *ℚ p) ≤ℚ (k *ℚ q)
+times_le k p q h e = order.mul_le k p q (order.le_of_lt (whole (pos 0)) k h) e
+
+-- and divided
+le_of_times_le : (k p q : ℚ) → whole (pos 0) <ℚ k → (k *ℚ p) ≤ℚ (k *ℚ q) → p ≤ℚ q
+le_of_times_le k p q h e =
+    ⊎_elim (λ r. r) (λ r. subst (λ t. p ≤ℚ t) (cancel k p q h (order.le_antisym (k *ℚ p) (k *ℚ q) e (times_le k q p h (order.le_of_lt q p r)))) (order.le_refl p)) (order.le_or_lt p q)
+
+-- ---- products that are whole
+
+-- a number that divides the size of a whole number
+quotient : (n : ℕ) (z : ℤ) → n ∣ nat_abs z → z ≡ pos n *ℤ int_div z (pos n)
+quotient n (pos a) h = ap pos (sym (mul-div_cancel' n h))
+quotient n (negsuc a) h =
+    sym (mul_neg (pos n) (pos (suc a / n)) ∙ ap (λ k. neg_ℤ (pos k)) (mul-div_cancel' n h))
+
+-- a number that is whole is its numerator
+num_is : (p : ℚ) (z : ℤ) → p ≡ whole z → whole p.num ≡ p
+unfolding whole
+num_is p z e = subst (λ t. whole t.num ≡ t) (sym e) refl
+
+-- the product of a fraction and a number
+frac_times : (m n : ℕ) (q : ℚ) → 0 < n → frac (pos m) n *ℚ q ≡ frac (pos m *ℤ q.num) (n * q.den)
+frac_times m n q h =
+    ap (λ t. frac (pos m) n *ℚ t) (sym (frac-self q)) ∙ frac-mul (pos m) q.num n q.den h (den_pos q)
+
+-- the product of a fraction and a number, if it is whole
+cross_of_whole : (m n : ℕ) (q : ℚ) (z : ℤ) → 0 < n → frac (pos m) n *ℚ q ≡ whole z → m * nat_abs q.num ≡ nat_abs z * (n * q.den)
+cross_of_whole m n q z h e =
+    let cross : (pos m *ℤ q.num) *ℤ pos 1 ≡ z *ℤ pos (n * q.den) = cross_from_same (pos m *ℤ q.num) z (n * q.den) 1 (mul-pos h (den_pos q)) (omega arith) (sym (frac_times m n q h) ∙ e ∙ whole-frac z) in
+    sym (abs_mul (pos m) q.num) ∙ ap nat_abs (by_one (pos m *ℤ q.num) ∙ cross) ∙ abs_mul z (pos (n * q.den))
+  where
+    by_one : (x : ℤ) → x ≡ x *ℤ pos 1
+    by_one x = omega linear
+
+-- it is whole where the denominator divides the one, and the other divides the numerator
+whole_value : (m n : ℕ) (q : ℚ) → 0 < n → q.den ∣ m → n ∣ nat_abs q.num → frac (pos m) n *ℚ q ≡ whole (pos (m / q.den) *ℤ int_div q.num (pos n))
+unfolding whole
+whole_value m n q h p d =
+    let u : ℕ = m / q.den in
+    let v : ℤ = int_div q.num (pos n) in
+    frac_times m n q h ∙ frac_is (pos m *ℤ q.num) (n * q.den) (whole (pos u *ℤ v)) (mul-pos h (den_pos q)) (ap₂ (λ s t. (pos s *ℤ t) *ℤ pos 1) (sym (mul-div_cancel' q.den p)) (quotient n q.num d) ∙ turned (pos q.den) (pos u) (pos n) v)
+  where
+    turned : (d u n v : ℤ) → ((d *ℤ u) *ℤ (n *ℤ v)) *ℤ pos 1 ≡ (u *ℤ v) *ℤ (n *ℤ d)
+    turned d u n v = simp expand (omega linear)
+
+-- the common denominator is above 0
+common_denominator_pos : (a : List ℚ) → 0 < common_denominator a
+common_denominator_pos [] = omega arith
+common_denominator_pos (q ∷ a) = lcm_pos q.den (common_denominator a) (den_pos q) (common_denominator_pos a)
+
+-- one is above 0
+one_above : whole (pos 0) <ℚ whole (pos 1)
+unfolding whole
+one_above = record { lt = omega linear }
+
+-- the scale is above 0
+over_or_one_pos : (m n : ℕ) → 0 < m → whole (pos 0) <ℚ over_or_one m n
+over_or_one_pos m zero h = one_above
+over_or_one_pos m (suc n) h =
+    subst (λ t. t <ℚ frac (pos m) (suc n)) (sym (whole-frac (pos 0))) (order.lt_frac (pos 0) (pos m) 1 (suc n) (omega arith) (omega arith) (above m n h))
+  where
+    above : (m n : ℕ) → 0 < m → (pos 0 *ℤ pos (suc n)) <ℤ (pos m *ℤ pos 1)
+    above m n h = omega linear
+
+pub scale_pos : (a : List ℚ) → whole (pos 0) <ℚ scale a
+scale_pos a = over_or_one_pos (common_denominator a) (common_numerator a) (common_denominator_pos a)
+
+-- ---- the scale makes the coefficients whole
+
+-- where 0 divides the numerator the number is 0
+zero_from_dvd : (q : ℚ) → 0 ∣ nat_abs q.num → q ≡ whole (pos 0)
+zero_from_dvd q h =
+    zero_from_num q (none q.num (sym (mul-div_cancel' 0 h) ∙ zero-mul (nat_abs q.num / 0)))
+  where
+    none : (z : ℤ) → nat_abs z ≡ 0 → z ≡ pos 0
+    none z e = omega (linear, e)
+
+-- the number of a common multiple over a common divisor makes a coefficient whole
+whole_product : (m n : ℕ) (q : ℚ) → q.den ∣ m → n ∣ nat_abs q.num → whole (over_or_one m n *ℚ q).num ≡ over_or_one m n *ℚ q
+whole_product m zero q p d =
+    num_is (whole (pos 1) *ℚ q) (pos 0) (ring.mul_comm (whole (pos 1)) q ∙ ring.mul_one q ∙ zero_from_dvd q d)
+whole_product m (suc n) q p d =
+    num_is (frac (pos m) (suc n) *ℚ q) (pos (m / q.den) *ℤ int_div q.num (pos (suc n))) (whole_value m (suc n) q (omega arith) p d)
+
+-- and all of them
+whole_products : (m n : ℕ) (a : List ℚ) → common_denominator a ∣ m → n ∣ common_numerator a → map whole (map (λ q. (over_or_one m n *ℚ q).num) a) ≡ map (λ q. over_or_one m n *ℚ q) a
+whole_products m n [] p d = refl
+whole_products m n (q ∷ a) p d =
+    ap₂ ◌∷◌ (whole_product m n q (dvd_trans _ (dvd_lcm_left q.den (common_denominator a)) p) (dvd_trans _ d (gcd_dvd_left (nat_abs q.num) (common_numerator a)))) (whole_products m n a (dvd_trans _ (dvd_lcm_right q.den (common_denominator a)) p) (dvd_trans _ d (gcd_dvd_right (nat_abs q.num) (common_numerator a))))
+
+-- each coefficient times the scale is the whole coefficient in its place
+pub scaled-whole : (a : List ℚ) → map whole (scaled a) ≡ map (λ q. scale a *ℚ q) a
+scaled-whole a = whole_products (common_denominator a) (common_numerator a) a (dvd_refl _) (dvd_refl _)
+
+-- the sum of the whole coefficients is the sum of the coefficients times the scale
+scaled_sum : (a : List ℚ) (x : List ℤ) → whole (dot integers (scaled a) x) ≡ scale a *ℚ sum_at a x
+scaled_sum a x = multiple_of_sum (scale a) a (scaled a) x (scaled-whole a)
+
+-- ---- order and points
+
+-- the order of the sums is that of the whole sums
+pub scaled_order : (a : List ℚ) (x y : List ℤ) → (sum_at a x ≤ℚ sum_at a y) ↔ (dot integers (scaled a) x ≤ℤ dot integers (scaled a) y)
+scaled_order a x y = (
+  λ h. order.le_from_whole _ _ (subst₂ ◌≤ℚ◌ (sym (scaled_sum a x)) (sym (scaled_sum a y)) (times_le (scale a) _ _ (scale_pos a) h)),
+  λ h. le_of_times_le (scale a) _ _ (scale_pos a) (subst₂ ◌≤ℚ◌ (scaled_sum a x) (scaled_sum a y) (order.whole_le _ _ h)),
+)
+
+-- a lower side
+above_low : (a : List ℚ) (x : List ℤ) (l : ℚ) → (l ≤ℚ sum_at a x) ↔ (ceil (scale a *ℚ l) ≤ℤ dot integers (scaled a) x)
+above_low a x l = (
+  λ h. ceil_le (dot integers (scaled a) x) (scale a *ℚ l) (subst (λ t. (scale a *ℚ l) ≤ℚ t) (sym (scaled_sum a x)) (times_le (scale a) _ _ (scale_pos a) h)),
+  λ h. le_of_times_le (scale a) _ _ (scale_pos a) (subst (λ t. (scale a *ℚ l) ≤ℚ t) (scaled_sum a x) (order.le_trans _ _ _ (le_ceil (scale a *ℚ l)) (order.whole_le _ _ h))),
+)
+
+-- an upper side
+below_high : (a : List ℚ) (x : List ℤ) (h : ℚ) → (sum_at a x ≤ℚ h) ↔ (dot integers (scaled a) x ≤ℤ floor (scale a *ℚ h))
+below_high a x h = (
+  λ e. le_floor (dot integers (scaled a) x) (scale a *ℚ h) (subst (λ t. t ≤ℚ (scale a *ℚ h)) (sym (scaled_sum a x)) (times_le (scale a) _ _ (scale_pos a) e)),
+  λ e. le_of_times_le (scale a) _ _ (scale_pos a) (subst (λ t. t ≤ℚ (scale a *ℚ h)) (scaled_sum a x) (order.le_trans _ _ _ (order.whole_le _ _ e) (floor_le (scale a *ℚ h)))),
+)
+
+-- a side that may be absent
+low_side : (a : List ℚ) (x : List ℤ) (low : Option ℚ) → IfSome low (λ l. l ≤ℚ sum_at a x) ↔ IfSome (option_map (λ l. ceil (scale a *ℚ l)) low) (λ l. l ≤ℤ dot integers (scaled a) x)
+low_side a x None = (λ h. h, λ h. h)
+low_side a x (Some l) = above_low a x l
+
+-- the other
+high_side : (a : List ℚ) (x : List ℤ) (high : Option ℚ) → IfSome high (λ h. sum_at a x ≤ℚ h) ↔ IfSome (option_map (λ h. floor (scale a *ℚ h)) high) (λ h. dot integers (scaled a) x ≤ℤ h)
+high_side a x None = (λ h. h, λ h. h)
+high_side a x (Some h) = below_high a x h
+
+-- whole numbers meet the row exactly where they meet its integer row
+pub points_kept : (row : FractionRow) (x : List ℤ) → MeetsFractionRow row x ↔ MeetsRow (integer_row row) x
+points_kept row x =
+    let low = low_side row.factors x row.low in
+    let high = high_side row.factors x row.high in
+    (λ h. (low.0 h.0, high.0 h.1), λ h. (low.1 h.0, high.1 h.1))
