@@ -1,10 +1,11 @@
 -- The laws of the scale of a row with rational coefficients: it makes them whole and primitive, and keeps points and order.
-use Rattle.std.proofs.Common.{◌≡◌, ◌≢◌, ⊎_elim, ℕ, zero, suc, ◌*◌, ◌/◌, ◌<◌, nat_abs, int_div, ℤ, pos, negsuc, ◌+ℤ◌, ◌*ℤ◌, neg_ℤ, ◌≤ℤ◌, ◌<ℤ◌, List, [], ◌∷◌, refl, sym, ap, ap₂, ◌∙◌, subst, subst₂, arith, mul_comm, mul_assoc, mul-pos, zero-mul, mul-zero}
-use Rattle.std.specs.Prelude.{map, Option, Some, None, ◌↔◌, IfSome}
+use Rattle.std.proofs.Common.{◌≡◌, ◌≢◌, ⊎_elim, ℕ, zero, suc, ◌*◌, ◌/◌, ◌<◌, nat_abs, int_div, ℤ, pos, negsuc, ◌+ℤ◌, ◌*ℤ◌, neg_ℤ, ◌≤ℤ◌, ◌<ℤ◌, List, [], ◌∷◌, refl, sym, ap, ap₂, ◌∙◌, subst, subst₂, arith, mul_comm, mul_assoc, mul-pos, zero-mul, mul-zero, one-mul}
+use Rattle.std.specs.Prelude.{map, length, slice_index_or, Option, Some, None, ◌↔◌, IfSome}
+use Rattle.std.specs.List.{Any}
 use Rattle.std.specs.Option.{option_map}
 use Rattle.std.specs.Int.{◌∣◌}
-use Rattle.std.proofs.Math.Nat.{dvd-mul_left, dvd-mul_right, dvd_of_mul-dvd-mul_left, eq-one_of_dvd-one, mul-div_cancel'}
-use Rattle.std.proofs.lemmas.Nat.Gcd.{dvd_trans, dvd_antisymm, dvd_refl}
+use Rattle.std.proofs.Math.Nat.{dvd-mul_left, dvd-mul_right, dvd_of_mul-dvd-mul_left, one-dvd, eq-one_of_dvd-one, mul-div_cancel', eq_of_mul-eq-mul_left, eq_of_mul-eq-mul_right}
+use Rattle.std.proofs.lemmas.Nat.Gcd.{dvd_trans, dvd_antisymm, dvd_refl, dvd-zero}
 use Rattle.exact_math.specs.Gcd.{gcd, lcm}
 use Rattle.exact_math.specs.GcdLaws.{gcd_dvd_left, gcd_dvd_right, dvd_gcd, gcd_comm, gcd-mul_left, gcd-mul-div_left, gcd-mul-div_right, gcd_pos_right, dvd_from_product, nat_abs-neg}
 use Rattle.exact_math.specs.Ring.{integers}
@@ -188,3 +189,94 @@ points_kept row x =
     let low = low_side row.factors x row.low in
     let high = high_side row.factors x row.high in
     (λ h. (low.0 h.0, high.0 h.1), λ h. (low.1 h.0, high.1 h.1))
+
+-- ---- the whole coefficients have no common divisor but 1
+
+-- four factors in another order
+turned : (c w n d : ℕ) → (c * w) * (n * d) ≡ (c * n) * (w * d)
+turned c w n d = ap nat_abs (same (pos c) (pos w) (pos n) (pos d))
+  where
+    same : (c w n d : ℤ) → (c *ℤ w) *ℤ (n *ℤ d) ≡ (c *ℤ n) *ℤ (w *ℤ d)
+    same c w n d = simp expand (omega linear)
+
+-- a coefficient N/d times m/n is a multiple of c in size: then d divides the lowered m
+den_dvd_quotient : (m n c w N d : ℕ) → 0 < m → gcd N d ≡ 1 → m * N ≡ (c * w) * (n * d) → d ∣ m / gcd (c * n) m
+den_dvd_quotient m n c w N d some lowest e =
+    let h = gcd (c * n) m in
+    let h_some : 0 < h = gcd_pos_right (c * n) m some in
+    let p : ℕ = c * n / h in
+    let q : ℕ = m / h in
+    let lowered : h * (q * N) ≡ h * (p * (w * d)) = sym (mul_assoc h q N) ∙ ap (λ k. k * N) (gcd-mul-div_right (c * n) m) ∙ e ∙ turned c w n d ∙ ap (λ k. k * (w * d)) (sym (gcd-mul-div_left (c * n) m)) ∙ mul_assoc h p (w * d) in
+    let is : q * N ≡ p * (w * d) = eq_of_mul-eq-mul_left h h_some _ _ lowered in
+    dvd_from_product d N q (gcd_comm d N ∙ lowest) (subst (λ k. d ∣ k) (mul_assoc p w d ∙ sym is ∙ mul_comm q N) (dvd-mul_left d (p * w)))
+
+-- and where c*n and m have no common divisor but 1, c*n divides N
+dvd_num : (m n c w N d : ℕ) → gcd (c * n) m ≡ 1 → m * N ≡ (c * w) * (n * d) → c * n ∣ N
+dvd_num m n c w N d apart e =
+    dvd_from_product (c * n) m N apart (subst (λ k. c * n ∣ k) (sym (e ∙ turned c w n d)) (dvd-mul_right (c * n) (w * d)))
+
+-- the whole value of a coefficient, of which c divides the size
+product_is : (m n c : ℕ) (q : ℚ) → q.den ∣ m → suc n ∣ nat_abs q.num → c ∣ nat_abs (frac (pos m) (suc n) *ℚ q).num → m * nat_abs q.num ≡ (c * (nat_abs (frac (pos m) (suc n) *ℚ q).num / c)) * (suc n * q.den)
+product_is m n c q p d h =
+    cross_of_whole m (suc n) q (frac (pos m) (suc n) *ℚ q).num (omega arith) (sym (whole_product m (suc n) q p d)) ∙ ap (λ k. k * (suc n * q.den)) (sym (mul-div_cancel' c h))
+
+-- the same as `den_dvd_quotient` of all coefficients
+dens_dvd_quotient : (m n c : ℕ) (a : List ℚ) → 0 < m → common_denominator a ∣ m → suc n ∣ common_numerator a → c ∣ common_divisor (map (λ q. (frac (pos m) (suc n) *ℚ q).num) a) → common_denominator a ∣ m / gcd (c * suc n) m
+dens_dvd_quotient m n c [] some p d h = one-dvd (m / gcd (c * suc n) m)
+dens_dvd_quotient m n c (q ∷ a) some p d h =
+    let rest = map (λ q. (frac (pos m) (suc n) *ℚ q).num) a in
+    let z = (frac (pos m) (suc n) *ℚ q).num in
+    let first = product_is m n c q (dvd_trans _ (dvd_lcm_left q.den (common_denominator a)) p) (dvd_trans _ d (gcd_dvd_left (nat_abs q.num) (common_numerator a))) (dvd_trans _ h (gcd_dvd_left (nat_abs z) (common_divisor rest))) in
+    lcm_dvd q.den (common_denominator a) _ (common_denominator_pos a) (den_dvd_quotient m (suc n) c _ (nat_abs q.num) q.den some (terms_lowest q) first) (dens_dvd_quotient m n c a some (dvd_trans _ (dvd_lcm_right q.den (common_denominator a)) p) (dvd_trans _ d (gcd_dvd_right (nat_abs q.num) (common_numerator a))) (dvd_trans _ h (gcd_dvd_right (nat_abs z) (common_divisor rest))))
+
+-- the same as `dvd_num` of all coefficients
+dvd_nums : (m n c : ℕ) (a : List ℚ) → gcd (c * suc n) m ≡ 1 → common_denominator a ∣ m → suc n ∣ common_numerator a → c ∣ common_divisor (map (λ q. (frac (pos m) (suc n) *ℚ q).num) a) → c * suc n ∣ common_numerator a
+dvd_nums m n c [] apart p d h = dvd-zero (c * suc n)
+dvd_nums m n c (q ∷ a) apart p d h =
+    let rest = map (λ q. (frac (pos m) (suc n) *ℚ q).num) a in
+    let z = (frac (pos m) (suc n) *ℚ q).num in
+    let first = product_is m n c q (dvd_trans _ (dvd_lcm_left q.den (common_denominator a)) p) (dvd_trans _ d (gcd_dvd_left (nat_abs q.num) (common_numerator a))) (dvd_trans _ h (gcd_dvd_left (nat_abs z) (common_divisor rest))) in
+    dvd_gcd (nat_abs q.num) (common_numerator a) _ (dvd_num m (suc n) c _ (nat_abs q.num) q.den apart first) (dvd_nums m n c a apart (dvd_trans _ (dvd_lcm_right q.den (common_denominator a)) p) (dvd_trans _ d (gcd_dvd_right (nat_abs q.num) (common_numerator a))) (dvd_trans _ h (gcd_dvd_right (nat_abs z) (common_divisor rest))))
+
+-- a number whose quotient it divides is divided by 1
+one_from_quotient : (h m : ℕ) → 0 < m → h * (m / h) ≡ m → m ∣ m / h → h ≡ 1
+one_from_quotient h m some e d =
+    let same : m / h ≡ m = dvd_antisymm (subst (λ k. m / h ∣ k) e (dvd-mul_left (m / h) h)) d in
+    eq_of_mul-eq-mul_right m some h 1 (ap (λ k. h * k) (sym same) ∙ e ∙ sym (one-mul m))
+
+-- a factor that divides out is 1
+one_from_multiple : (c n : ℕ) → c * suc n ∣ suc n → c ≡ 1
+one_from_multiple c n d =
+    eq_of_mul-eq-mul_right (suc n) (omega arith) c 1 (dvd_antisymm d (dvd-mul_left (suc n) c) ∙ sym (one-mul (suc n)))
+
+-- the whole coefficients have no common divisor but 1, where a numerator is not 0
+primitive_over : (m n : ℕ) (a : List ℚ) → common_denominator a ≡ m → common_numerator a ≡ suc n → common_divisor (map (λ q. (over_or_one m (suc n) *ℚ q).num) a) ≡ 1
+primitive_over m n a e f =
+    let c = common_divisor (map (λ q. (frac (pos m) (suc n) *ℚ q).num) a) in
+    let some : 0 < m = subst (λ k. 0 < k) e (common_denominator_pos a) in
+    let p : common_denominator a ∣ m = subst (λ k. common_denominator a ∣ k) e (dvd_refl _) in
+    let d : suc n ∣ common_numerator a = subst (λ k. suc n ∣ k) (sym f) (dvd_refl _) in
+    let h : m ∣ m / gcd (c * suc n) m = subst (λ k. k ∣ m / gcd (c * suc n) m) e (dens_dvd_quotient m n c a some p d (dvd_refl c)) in
+    let apart : gcd (c * suc n) m ≡ 1 = one_from_quotient (gcd (c * suc n) m) m some (gcd-mul-div_right (c * suc n) m) h in
+    one_from_multiple c n (subst (λ k. c * suc n ∣ k) f (dvd_nums m n c a apart p d (dvd_refl c)))
+
+-- the same of the scale
+primitive_scaled : (a : List ℚ) → common_numerator a ≢ 0 → common_divisor (scaled a) ≡ 1
+primitive_scaled a = by_numerator (common_numerator a) refl
+  where
+    by_numerator : (n : ℕ) → common_numerator a ≡ n → n ≢ 0 → common_divisor (map (λ q. (over_or_one (common_denominator a) n *ℚ q).num) a) ≡ 1
+    by_numerator zero e ne = absurd (ne refl)
+    by_numerator (suc n) e ne = primitive_over (common_denominator a) n a refl e
+
+-- the common divisor of the numerators divides the numerator of each coefficient
+common_numerator_dvd : (a : List ℚ) (k : ℕ) (q : ℚ) → k < length a → slice_index_or a k q ≡ q → common_numerator a ∣ nat_abs q.num
+common_numerator_dvd [] k q h e = absurd (omega arith)
+common_numerator_dvd (p ∷ a) zero q h e =
+    subst (λ (t : ℚ). common_numerator (p ∷ a) ∣ nat_abs t.num) e (gcd_dvd_left (nat_abs p.num) (common_numerator a))
+common_numerator_dvd (p ∷ a) (suc k) q h e =
+    dvd_trans _ (gcd_dvd_right (nat_abs p.num) (common_numerator a)) (common_numerator_dvd a k q (omega arith) e)
+
+-- the whole coefficients have no common divisor but 1, where some coefficient is not 0
+pub scaled-primitive : (a : List ℚ) → Any (λ q. q ≢ whole (pos 0)) a → common_divisor (scaled a) ≡ 1
+scaled-primitive a (k, q, h, e, ne) =
+    primitive_scaled a (λ z. ne (zero_from_dvd q (subst (λ n. n ∣ nat_abs q.num) z (common_numerator_dvd a k q h e))))

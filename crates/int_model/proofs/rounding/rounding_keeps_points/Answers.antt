@@ -5,6 +5,7 @@ pub returns : goal.returns
 returns c = record {
   positive = laws.scale_pos;
   whole = laws.scaled-whole;
+  primitive = laws.scaled-primitive;
   points = laws.points_kept;
   order = laws.scaled_order;
 }
