@@ -8,3 +8,4 @@ pub mod LightLemmas
 pub mod DistinctLemmas
 pub mod ScaleLaws
 mod WorkedRows
+mod WorkedScales

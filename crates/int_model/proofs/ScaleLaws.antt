@@ -1,18 +1,19 @@
 -- The laws of the scale of a row with rational coefficients: it makes them whole and primitive, and keeps points and order.
-use Rattle.std.proofs.Common.{◌≡◌, ◌≢◌, ⊎_elim, ℕ, zero, suc, ◌*◌, ◌/◌, ◌<◌, nat_abs, int_div, ℤ, pos, negsuc, ◌+ℤ◌, ◌*ℤ◌, neg_ℤ, ◌≤ℤ◌, ◌<ℤ◌, List, [], ◌∷◌, refl, sym, ap, ap₂, ◌∙◌, subst, subst₂, arith, mul_comm, mul_assoc, mul-pos, zero-mul, mul-zero, one-mul}
+use Rattle.std.proofs.Common.{◌≡◌, ◌≢◌, ⊎_elim, ℕ, zero, suc, ◌*◌, ◌/◌, ◌<◌, nat_abs, int_div, ℤ, pos, negsuc, ◌*ℤ◌, neg_ℤ, ◌≤ℤ◌, ◌<ℤ◌, List, [], ◌∷◌, refl, sym, ap, ap₂, ◌∙◌, subst, subst₂, arith, mul_comm, mul_assoc, mul-pos, zero-mul, mul-zero, one-mul, mul-one}
 use Rattle.std.specs.Prelude.{map, length, slice_index_or, Option, Some, None, ◌↔◌, IfSome}
-use Rattle.std.specs.List.{Any}
+use Rattle.std.specs.List.{All, Any}
 use Rattle.std.specs.Option.{option_map}
 use Rattle.std.specs.Int.{◌∣◌}
-use Rattle.std.proofs.Math.Nat.{dvd-mul_left, dvd-mul_right, dvd_of_mul-dvd-mul_left, one-dvd, eq-one_of_dvd-one, mul-div_cancel', eq_of_mul-eq-mul_left, eq_of_mul-eq-mul_right}
+use Rattle.std.proofs.Math.Nat.{dvd-mul_left, dvd-mul_right, one-dvd, mul-div_cancel', eq_of_mul-eq-mul_left, eq_of_mul-eq-mul_right}
 use Rattle.std.proofs.lemmas.Nat.Gcd.{dvd_trans, dvd_antisymm, dvd_refl, dvd-zero}
-use Rattle.exact_math.specs.Gcd.{gcd, lcm}
-use Rattle.exact_math.specs.GcdLaws.{gcd_dvd_left, gcd_dvd_right, dvd_gcd, gcd_comm, gcd-mul_left, gcd-mul-div_left, gcd-mul-div_right, gcd_pos_right, dvd_from_product, nat_abs-neg}
+use Rattle.std.proofs.lemmas.List.Elements.{All-head, All-tail}
+use Rattle.exact_math.specs.Gcd.{gcd}
+use Rattle.exact_math.specs.GcdLaws.{gcd_dvd_left, gcd_dvd_right, dvd_gcd, gcd_comm, gcd-mul_left, gcd-mul-div_left, gcd-mul-div_right, gcd_pos_right, dvd_from_product, gcd-zero}
 use Rattle.exact_math.specs.Ring.{integers}
-use Rattle.exact_math.specs.Rational.{ℚ, whole, frac, ◌+ℚ◌, ◌*ℚ◌, inv_ℚ, ◌≤ℚ◌, ◌<ℚ◌, floor, ceil, IsWhole}
+use Rattle.exact_math.specs.Rational.{ℚ, whole, frac, ◌+ℚ◌, ◌*ℚ◌, inv_ℚ, ◌≤ℚ◌, ◌<ℚ◌, floor, ceil}
 use Rattle.exact_math.proofs.IntegerRing.{expand, linear, mul_neg}
-use Rattle.exact_math.proofs.IntegerOrder.{abs_mul}
-use Rattle.exact_math.proofs.RationalLaws.{den_pos, terms_lowest, frac-self, frac-mul, frac_is, whole-frac, same_from_cross, cross_from_same, zero_from_num}
+use Rattle.exact_math.proofs.IntegerOrder.{abs_mul, mul_pos}
+use Rattle.exact_math.proofs.RationalLaws.{den_pos, terms_lowest, frac-self, frac-mul, frac_is, whole-frac, same_from_cross, cross_from_same, zero_from_num, num_zero}
 use Rattle.exact_math.proofs.RationalRing.{rationals, mul_inv}
 use Rattle.exact_math.proofs.RationalRing as ring
 use Rattle.exact_math.proofs.RationalOrder as order
@@ -22,7 +23,7 @@ use Rattle.exact_math.proofs.RingSolver.{ring as solve, reads}
 use Rattle.exact_vectors.specs.Vectors.{dot}
 use Rattle.exact_vectors.proofs.Dot.{dot-scale_left}
 use Rattle.int_model.specs.Scale.{common_divisor, common_denominator, common_numerator, over_or_one, scale, scaled, FractionRow, sum_at, MeetsFractionRow, integer_row}
-use Rattle.int_model.specs.WholeRows.{WholeRow, MeetsRow}
+use Rattle.int_model.specs.WholeRows.{MeetsRow}
 
 -- ---- sums
 
@@ -46,6 +47,7 @@ cancel k p q h e = back p ∙ ap (λ t. inv_ℚ k *ℚ t) e ∙ sym (back q)
   where
     not_zero : k ≢ whole (pos 0)
     not_zero z = order.not_le_of_lt (whole (pos 0)) k h (subst (λ t. t ≤ℚ whole (pos 0)) (sym z) (order.le_refl (whole (pos 0))))
+
     back : (t : ℚ) → t ≡ inv_ℚ k *ℚ (k *ℚ t)
     back t =
         sym (ring.mul_one t) ∙ ap (λ s. t *ℚ s) (sym (mul_inv k not_zero)) ∙ solve rationals (k ∷ inv_ℚ k ∷ t ∷ []) (search reads depth 30) (search reads depth 30) refl
@@ -280,3 +282,98 @@ common_numerator_dvd (p ∷ a) (suc k) q h e =
 pub scaled-primitive : (a : List ℚ) → Any (λ q. q ≢ whole (pos 0)) a → common_divisor (scaled a) ≡ 1
 scaled-primitive a (k, q, h, e, ne) =
     primitive_scaled a (λ z. ne (zero_from_dvd q (subst (λ n. n ∣ nat_abs q.num) z (common_numerator_dvd a k q h e))))
+
+-- ---- no other positive number does the same
+
+-- the common divisor of multiples
+common_divisor-times : (k : ℤ) (c : List ℤ) → common_divisor (map (λ z. k *ℤ z) c) ≡ nat_abs k * common_divisor c
+common_divisor-times k [] = sym (mul-zero (nat_abs k))
+common_divisor-times k (z ∷ c) =
+    ap₂ gcd (abs_mul k z) (common_divisor-times k c) ∙ gcd-mul_left (nat_abs k) (nat_abs z) (common_divisor c)
+
+-- the numerators of whole numbers
+nums_of_whole : (c : List ℤ) → map (λ (q : ℚ). q.num) (map whole c) ≡ c
+unfolding whole
+nums_of_whole [] = refl
+nums_of_whole (z ∷ c) = ap (λ l. z ∷ l) (nums_of_whole c)
+
+-- multiples of whole numbers are whole
+whole-times : (k : ℤ) (c : List ℤ) → map whole (map (λ z. k *ℤ z) c) ≡ map (λ q. whole k *ℚ q) (map whole c)
+whole-times k [] = refl
+whole-times k (z ∷ c) = ap₂ ◌∷◌ (ring.whole_mul k z) (whole-times k c)
+
+-- two factors one after the other
+times_twice : (r s k l : ℚ) (a : List ℚ) → r *ℚ k ≡ s *ℚ l → map (λ q. r *ℚ q) (map (λ q. k *ℚ q) a) ≡ map (λ q. s *ℚ q) (map (λ q. l *ℚ q) a)
+times_twice r s k l [] e = refl
+times_twice r s k l (q ∷ a) e =
+    ap₂ ◌∷◌ (sym (ring.mul_assoc r k q) ∙ ap (λ t. t *ℚ q) e ∙ ring.mul_assoc s l q) (times_twice r s k l a e)
+
+-- two whole multiples of the same coefficients
+same_multiples : (m n : ℤ) (k l : ℚ) (a : List ℚ) (c d : List ℤ) → whole m *ℚ k ≡ whole n *ℚ l → map whole c ≡ map (λ q. k *ℚ q) a → map whole d ≡ map (λ q. l *ℚ q) a → nat_abs m * common_divisor c ≡ nat_abs n * common_divisor d
+same_multiples m n k l a c d e p q =
+    let wholes : map whole (map (λ z. m *ℤ z) c) ≡ map whole (map (λ z. n *ℤ z) d) = whole-times m c ∙ ap (map (λ t. whole m *ℚ t)) p ∙ times_twice (whole m) (whole n) k l a e ∙ sym (ap (map (λ t. whole n *ℚ t)) q) ∙ sym (whole-times n d) in
+    let lists : map (λ z. m *ℤ z) c ≡ map (λ z. n *ℤ z) d = sym (nums_of_whole _) ∙ ap (map (λ (t : ℚ). t.num)) wholes ∙ nums_of_whole _ in
+    sym (common_divisor-times m c) ∙ ap common_divisor lists ∙ common_divisor-times n d
+
+-- a number times its denominator
+den_times : (q : ℚ) → whole (pos q.den) *ℚ q ≡ whole q.num
+unfolding whole
+den_times q =
+    ap₂ ◌*ℚ◌ (whole-frac (pos q.den)) (sym (frac-self q)) ∙ frac-mul (pos q.den) q.num 1 q.den (omega arith) (den_pos q) ∙ frac_is (pos q.den *ℤ q.num) (1 * q.den) (whole q.num) (mul-pos (omega arith) (den_pos q)) (sides (pos q.den) q.num)
+  where
+    sides : (d n : ℤ) → (d *ℤ n) *ℤ pos 1 ≡ n *ℤ (pos 1 *ℤ d)
+    sides d n = simp expand (omega linear)
+
+-- two numbers have a common multiple
+balanced : (k l : ℚ) → whole (l.num *ℤ pos k.den) *ℚ k ≡ whole (k.num *ℤ pos l.den) *ℚ l
+balanced k l =
+    one_side l.num k ∙ ring.mul_comm (whole l.num) (whole k.num) ∙ sym (one_side k.num l)
+  where
+    one_side : (n : ℤ) (q : ℚ) → whole (n *ℤ pos q.den) *ℚ q ≡ whole n *ℚ whole q.num
+    one_side n q =
+        ap (λ t. t *ℚ q) (ring.whole_mul n (pos q.den)) ∙ ring.mul_assoc (whole n) (whole (pos q.den)) q ∙ ap (λ t. whole n *ℚ t) (den_times q)
+
+-- positive numbers of one size
+same_size : (x y : ℤ) → pos 0 <ℤ x → pos 0 <ℤ y → nat_abs x ≡ nat_abs y → x ≡ y
+same_size x y p q e = omega (linear, e)
+
+-- where the common divisor of the numerators is 0, so is that of the whole coefficients
+zero_scaled : (a : List ℚ) → common_numerator a ≡ 0 → common_divisor (scaled a) ≡ 0
+zero_scaled a e =
+    ap (λ n. common_divisor (map (λ q. (over_or_one (common_denominator a) n *ℚ q).num) a)) e ∙ kept a ∙ e
+  where
+    kept : (b : List ℚ) → common_divisor (map (λ q. (whole (pos 1) *ℚ q).num) b) ≡ common_numerator b
+    kept [] = refl
+    kept (q ∷ b) =
+        ap₂ (λ (t : ℚ) n. gcd (nat_abs t.num) n) (ring.mul_comm (whole (pos 1)) q ∙ ring.mul_one q) (kept b)
+
+-- a positive number that makes the coefficients whole with no common divisor but 1 is the scale
+pub scale_unique : (k : ℚ) (a : List ℚ) (c : List ℤ) → whole (pos 0) <ℚ k → map whole c ≡ map (λ q. k *ℚ q) a → common_divisor c ≡ 1 → k ≡ scale a
+scale_unique k a c some e one =
+    let l = scale a in
+    let left : pos 0 <ℤ (l.num *ℤ pos k.den) = positive l k (scale_pos a) in
+    let right : pos 0 <ℤ (k.num *ℤ pos l.den) = positive k l some in
+    let sizes : nat_abs (l.num *ℤ pos k.den) * common_divisor c ≡ nat_abs (k.num *ℤ pos l.den) * common_divisor (scaled a) = same_multiples (l.num *ℤ pos k.den) (k.num *ℤ pos l.den) k l a c (scaled a) (balanced k l) e (scaled-whole a) in
+    let single : nat_abs (l.num *ℤ pos k.den) ≡ nat_abs (k.num *ℤ pos l.den) * common_divisor (scaled a) = sym (mul-one (nat_abs (l.num *ℤ pos k.den))) ∙ ap (λ n. nat_abs (l.num *ℤ pos k.den) * n) (sym one) ∙ sizes in
+    let some_numerator : common_numerator a ≢ 0 = λ z. not_zero _ left (single ∙ ap (λ n. nat_abs (k.num *ℤ pos l.den) * n) (zero_scaled a z) ∙ mul-zero _) in
+    let same : nat_abs (l.num *ℤ pos k.den) ≡ nat_abs (k.num *ℤ pos l.den) = single ∙ ap (λ n. nat_abs (k.num *ℤ pos l.den) * n) (primitive_scaled a some_numerator) ∙ mul-one _ in
+    sym (same_from_cross l k (same_size _ _ left right same))
+  where
+    above : (n : ℕ) → 0 < n → pos 0 <ℤ pos n
+    above n h = omega linear
+
+    positive : (p q : ℚ) → whole (pos 0) <ℚ p → pos 0 <ℤ (p.num *ℤ pos q.den)
+    positive p q h = mul_pos p.num (pos q.den) (order.num_pos p h) (above q.den (den_pos q))
+
+    not_zero : (x : ℤ) → pos 0 <ℤ x → nat_abs x ≡ 0 → ⊥
+    not_zero x h e = omega (linear, e)
+
+-- where no coefficient is other than 0 the common divisor of the numerators is 0
+no_numerator : (a : List ℚ) → All (λ q. q ≡ whole (pos 0)) a → common_numerator a ≡ 0
+no_numerator [] h = refl
+no_numerator (q ∷ a) h =
+    ap₂ gcd (ap nat_abs (num_zero q (All-head (λ q. q ≡ whole (pos 0)) q a h))) (no_numerator a (All-tail (λ q. q ≡ whole (pos 0)) q a h)) ∙ gcd-zero 0
+
+-- then the scale is 1
+pub scale_of_zeros : (a : List ℚ) → All (λ q. q ≡ whole (pos 0)) a → scale a ≡ whole (pos 1)
+scale_of_zeros a h = ap (over_or_one (common_denominator a)) (no_numerator a h)

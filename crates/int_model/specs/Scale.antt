@@ -1,5 +1,5 @@
 -- Rows with rational coefficients, and the integer row of each.
-use Rattle.std.specs.Prelude.{ℕ, zero, suc, ℤ, pos, ◌≤ℤ◌, List, [], ◌∷◌, map, Option, IfSome, nat_abs}
+use Rattle.std.specs.Prelude.{ℕ, zero, suc, ℤ, pos, List, [], ◌∷◌, map, Option, IfSome, nat_abs}
 use Rattle.std.specs.Option.{option_map}
 use Rattle.exact_math.specs.Gcd.{gcd, lcm}
 use Rattle.exact_math.specs.Rational.{ℚ, whole, frac, ◌*ℚ◌, ◌≤ℚ◌, floor, ceil}

@@ -6,6 +6,8 @@ returns c = record {
   positive = laws.scale_pos;
   whole = laws.scaled-whole;
   primitive = laws.scaled-primitive;
+  zeros = laws.scale_of_zeros;
+  unique = laws.scale_unique;
   points = laws.points_kept;
   order = laws.scaled_order;
 }
