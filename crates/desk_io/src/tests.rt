@@ -1,4 +1,5 @@
 use crate::{Desk, DeskStop, Failed, MemDesk, RealDesk};
+use std::fs;
 use std::test::Fail;
 
 #[test]
@@ -64,6 +65,7 @@ fn a_take_without_an_input_fails(rt: HostRuntime) -> Result<(), Fail> {
 
 #[test]
 fn files_are_written_anew_and_read(rt: HostRuntime) -> Result<(), Fail> {
+    fs::create_dir_all(&rt, "out")?;
     let mut older = RealDesk::new(&rt);
     older.put("out/first", b"a longer text of an older run")?;
     let mut desk = RealDesk::new(&rt);

@@ -6,4 +6,6 @@ pub mod IntegerRowLemmas
 pub mod PointLemmas
 pub mod LightLemmas
 pub mod DistinctLemmas
+pub mod ScaleLaws
 mod WorkedRows
+mod WorkedScales

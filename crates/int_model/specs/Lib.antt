@@ -3,3 +3,4 @@ pub mod WholeRows
 pub mod IntegerRows
 pub mod FlatRows
 pub mod SmallModels
+pub mod Scale

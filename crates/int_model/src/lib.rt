@@ -5,9 +5,11 @@ mod bounds;
 mod dense;
 mod int_rows;
 mod model;
+mod rounding;
 mod sums;
 
 pub use bounds::Bounds;
 pub use int_rows::IntRows;
 pub use model::{Column, Columns, Item, Items, Model, Name, Row, Rows};
+pub use rounding::rounding_keeps_points;
 pub use sequence::NoMemory;
