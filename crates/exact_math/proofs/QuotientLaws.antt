@@ -27,7 +27,7 @@ between q r d n some h k =
     let s : q <ℤ (r +ℤ pos 1) = lt_of_mul_lt d q (r +ℤ pos 1) some (simp expand (omega (linear, simp expand at k))) in
     omega linear
 
--- a whole number is at most n/d exactly where it is at most the floor
+-- a whole number that is at most n/d is at most the floor
 pub le_floor_div : (n q : ℤ) (d : ℕ) → 0 < d → (q *ℤ pos d) ≤ℤ n → q ≤ℤ floor_div n d
 le_floor_div n q d some h = between q (floor_div n d) (pos d) n (omega linear) h (floor_div_above n d some)
 
@@ -42,7 +42,7 @@ floor_div_is n q d some h k =
 pub ceil_div_above : (n : ℤ) (d : ℕ) → 0 < d → n ≤ℤ (ceil_div n d *ℤ pos d)
 ceil_div_above n d some = omega (linear, floor_div_below (neg_ℤ n) d some, neg_mul (floor_div (neg_ℤ n) d) (pos d))
 
--- a whole number is at least n/d exactly where it is at least the ceiling
+-- a whole number that is at least n/d is at least the ceiling
 pub ceil_div_le : (n q : ℤ) (d : ℕ) → 0 < d → n ≤ℤ (q *ℤ pos d) → ceil_div n d ≤ℤ q
 ceil_div_le n q d some h =
     omega (linear, le_floor_div (neg_ℤ n) (neg_ℤ q) d some (omega (linear, neg_mul q (pos d))))

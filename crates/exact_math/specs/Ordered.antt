@@ -2,7 +2,7 @@
 use Rattle.std.specs.Prelude.{pos}
 use Rattle.exact_math.specs.Ring.{Ring}
 
--- `Le` is an order of the ring's numbers that sums keep, and products of numbers that are not negative
+-- `Le` is a reflexive and transitive relation of the ring's numbers that sums keep; products of numbers that are not negative are not negative
 pub record IsOrdered {A : Type 0} (r : Ring A) (Le : A → A → Type 0) : Type 0 where
   pub le_refl : (a : A) → Le a a
   pub le_trans : (a b c : A) → Le a b → Le b c → Le a c

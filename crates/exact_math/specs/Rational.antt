@@ -72,6 +72,7 @@ infix 50 ◌≤ℚ◌ ◌<ℚ◌
 pub record ◌≤ℚ◌ (p q : ℚ) : Type 0 where
   pub le : (p.num *ℤ pos q.den) ≤ℤ (q.num *ℤ pos p.den)
 
+-- the strict order
 pub record ◌<ℚ◌ (p q : ℚ) : Type 0 where
   pub lt : (p.num *ℤ pos q.den) <ℤ (q.num *ℤ pos p.den)
 
@@ -79,13 +80,15 @@ pub record ◌<ℚ◌ (p q : ℚ) : Type 0 where
 unfoldable pub rational_cmp : ℚ → ℚ → Ordering
 rational_cmp p q = int_cmp (p.num *ℤ pos q.den) (q.num *ℤ pos p.den)
 
--- the greatest whole number that is at most q, the least that is at least q, and the nearest, of two the greater
+-- the greatest whole number that is at most q
 abbrev pub floor : ℚ → ℤ
 floor q = floor_div q.num q.den
 
+-- the least whole number that is at least q
 abbrev pub ceil : ℚ → ℤ
 ceil q = ceil_div q.num q.den
 
+-- the whole number nearest to q, and of two the greater
 abbrev pub round : ℚ → ℤ
 round q = round_div q.num q.den
 

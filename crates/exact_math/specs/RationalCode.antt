@@ -39,6 +39,7 @@ frac-self q =
     let t = frac-lowest q.num q.den (den_pos q) (terms_lowest q) in
     same_terms (frac q.num q.den) q t.0 t.1
 
+-- the code: the two terms
 abbrev pub rational_code : Coded ℚ
 rational_code =
     code_by (ℤ × ℕ) (coded× coded_ℤ coded_ℕ) (λ q. (q.num, q.den)) (λ p. frac p.0 p.1) frac-self

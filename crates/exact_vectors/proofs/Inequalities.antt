@@ -31,7 +31,7 @@ weak_duality = Ordered.weak_duality integers ◌≤ℤ◌ Order.integers_ordered
 -- the easy half of Farkas' lemma: where m ≥ 0, m A = 0 and m b < 0, no x has A x ≤ b
 pub farkas : (n : ℕ) (m : List ℤ) (rows : List (List ℤ)) (x b : List ℤ) → HasWidth n rows → NotNegative m → combination integers n m rows ≡ zeros integers n → dot integers m b <ℤ pos 0 → ¬ (AtMost (times_vector integers rows x) b)
 farkas n m rows x b width h vanishes negative k =
-    let bound : pos 0 ≤ℤ dot integers m b = Ordered.farkas integers ◌≤ℤ◌ Order.integers_ordered n m rows x b width h vanishes k in
+    let bound : pos 0 ≤ℤ dot integers m b = Ordered.vanishing_combination integers ◌≤ℤ◌ Order.integers_ordered n m rows x b width h vanishes k in
     omega linear
 
 -- a dot product is bounded by the number of its products, where each list's absolute values are bounded

@@ -4,3 +4,4 @@ pub mod Matrices
 pub mod FlatMatrices
 pub mod OrderedVectors
 pub mod Inequalities
+pub mod RationalInequalities

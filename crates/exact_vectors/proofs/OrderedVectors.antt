@@ -48,6 +48,6 @@ module _ {A : Type 0} (r : Ring A) (Le : A → A → Type 0) (o : IsOrdered r Le
   weak_duality n y rows x b c width hy hx primal dual =
       o.le_trans _ _ _ (dot_monotone_right x c (combination r n y rows) hx dual) (combination_le n y rows x b width hy primal)
 
-  -- the easy half of Farkas' lemma: where m ≥ 0 and m A = 0, a solution of A x ≤ b shows that m b is not negative
-  pub farkas : (n : ℕ) (m : List A) (rows : List (List A)) (x b : List A) → HasWidth n rows → NotNegativeBy r Le m → combination r n m rows ≡ zeros r n → AllZip Le (times_vector r rows x) b → Le (r.literal (pos 0)) (dot r m b)
-  farkas n m rows x b width h vanishes k = subst (λ z. Le z (dot r m b)) (ap (λ v. dot r v x) vanishes ∙ Dot.dot-zeros_left r n x) (combination_le n m rows x b width h k)
+  -- where m ≥ 0 and m A = 0, a solution of A x ≤ b shows that m b is not negative
+  pub vanishing_combination : (n : ℕ) (m : List A) (rows : List (List A)) (x b : List A) → HasWidth n rows → NotNegativeBy r Le m → combination r n m rows ≡ zeros r n → AllZip Le (times_vector r rows x) b → Le (r.literal (pos 0)) (dot r m b)
+  vanishing_combination n m rows x b width h vanishes k = subst (λ z. Le z (dot r m b)) (ap (λ v. dot r v x) vanishes ∙ Dot.dot-zeros_left r n x) (combination_le n m rows x b width h k)

@@ -3,11 +3,13 @@
 //! Vectors are lists and matrices lists of rows, over any commutative ring of `exact_math`.
 #![tactic(auto)]
 
-ghost use Rattle.std.specs.List.{All};
+ghost use Rattle.std.specs.List.{All, AllZip};
 ghost use Rattle.std.specs.Prelude.{◌≡◌, ℕ, ◌+◌, ◌*◌, ◌<◌, ◌≤◌, ℤ, pos, ◌≤ℤ◌, ◌<ℤ◌, nat_abs, List, [], ◌++◌, length, get_or, set, drop};
 ghost use Rattle.exact_math.specs.Determinants.{difference};
 ghost use Rattle.exact_math.specs.Ring.{Ring, integers};
-ghost use Rattle.exact_vectors.specs.Inequalities.{AtMost, NotNegative};
+ghost use Rattle.exact_math.specs.Rational.{ℚ, whole, ◌≤ℚ◌, ◌<ℚ◌};
+ghost use Rattle.exact_math.proofs.RationalRing.{rationals};
+ghost use Rattle.exact_vectors.specs.Inequalities.{AtMost, NotNegative, NotNegativeBy};
 ghost use Rattle.exact_vectors.specs.Matrices.{HasWidth, column, combination, rows_of, times_matrix, times_vector, transpose};
 ghost use Rattle.exact_vectors.specs.Vectors.{add, dot, scale, sum_below, zeros};
 
@@ -36,11 +38,13 @@ pub fn matrix_laws<T>()
     ensures flat_set { (n m : ℕ) (flat : List T) (i j : ℕ) (b : T) → i < m → j < n → rows_of n m (set flat (i * n + j) b) ≡ set (rows_of n m flat) i (set (get_or (rows_of n m flat) i []) j b) }
 {}
 
-/// Combinations of inequalities over the whole numbers: weak duality, and the easy half of Farkas' lemma. It does nothing.
+/// Combinations of inequalities over the whole numbers: weak duality, and the easy half of Farkas' lemma, which stands
+/// for the rational numbers too. It does nothing.
 pub fn inequality_laws()
     ensures combined { (n : ℕ) (m : List ℤ) (rows : List (List ℤ)) (x b : List ℤ) → HasWidth n rows → NotNegative m → AtMost (times_vector integers rows x) b → dot integers (combination integers n m rows) x ≤ℤ dot integers m b }
     ensures weak_duality { (n : ℕ) (y : List ℤ) (rows : List (List ℤ)) (x b c : List ℤ) → HasWidth n rows → NotNegative y → NotNegative x → AtMost (times_vector integers rows x) b → AtMost c (combination integers n y rows) → dot integers c x ≤ℤ dot integers y b }
     ensures farkas { (n : ℕ) (m : List ℤ) (rows : List (List ℤ)) (x b : List ℤ) → HasWidth n rows → NotNegative m → combination integers n m rows ≡ zeros integers n → dot integers m b <ℤ pos 0 → ¬ (AtMost (times_vector integers rows x) b) }
+    ensures rational_farkas { (n : ℕ) (m : List ℚ) (rows : List (List ℚ)) (x b : List ℚ) → HasWidth n rows → NotNegativeBy rationals ◌≤ℚ◌ m → combination rationals n m rows ≡ zeros rationals n → dot rationals m b <ℚ whole (pos 0) → ¬ (AllZip ◌≤ℚ◌ (times_vector rationals rows x) b) }
     ensures bounded { (v w : List ℤ) (p q : ℕ) → All (λ a. nat_abs a ≤ p) v → All (λ x. nat_abs x ≤ q) w → nat_abs (dot integers v w) ≤ length v * (p * q) }
 {}
 

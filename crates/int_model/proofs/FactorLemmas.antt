@@ -34,9 +34,6 @@ pub record IsSplitAt (items : List Item) (column at : ℕ) : Type 0 where
   pub below : (k : ℕ) (d : Item) → k < at → (get_or items k d).column < column
   pub above : (k : ℕ) (d : Item) → at ≤ k → k < length items → column ≤ (get_or items k d).column
 
-pub IsSplitAt-none : (items : List Item) → IsSplitAt items 0 0
-IsSplitAt-none items = record { within = omega arith; below = λ k d h. absurd (omega arith); above = λ k d h l. omega arith }
-
 -- the column of the term at a place, whatever stands for a term past the end
 pub column-same : (items : List Item) (k at : ℕ) (d e : Item) → k ≡ at → at < length items → (get_or items k d).column ≡ (get_or items at e).column
 column-same items k at d e is h = rw is (ap (λ (item : Item). item.column) (get_or_default items at d e h))

@@ -18,7 +18,7 @@ is_minus minus = true
 abbrev pub AllDigits : List ℕ → Type 0
 AllDigits bytes = IsTrue (list_all is_digit bytes)
 
--- the value of the exponent, M and e
+-- the value of the exponent
 abbrev pub power_value : Power → ℤ
 power_value x = with_sign x.is_negative (digits_value x.digits.now)
 
@@ -34,7 +34,7 @@ parts_power p = power_value p.power -ℤ pos (length p.fraction.now)
 abbrev pub whole_of : ℕ → List ℕ → ℕ
 whole_of number digits = number * 10 ^ length digits + digits_value digits
 
--- whether the number with these parts fits, and what it is
+-- the number with these parts fits
 abbrev pub PartsFit : Parts → Type 0
 PartsFit p = IsTrue (fits_product (parts_mantissa p) (parts_power p))
 

@@ -1,4 +1,5 @@
--- The parts of a number, found from the left of its text.
+-- The parts of a number, found from the left of its text: the form of `Decimal.antt` that computes. A text spells one
+-- decimal at most, and it is the one found here (`Rattle.mps_fields.proofs.ReadingLaws`).
 use Rattle.std.specs.Prelude.{ℕ, ◌&&◌, ◌||◌, ◌==◌, if◌then◌else◌, List, [], ◌∷◌, ◌++◌, take, drop, Option, Some, None, Result, Ok, Err}
 use Rattle.std.specs.List.{prefix_len}
 use Rattle.exact_math.specs.Rational.{ℚ}
@@ -6,7 +7,7 @@ use Rattle.mps_fields.specs.declared.numbers.NumberFault.{NumberFault}
 use Rattle.mps_fields.specs.declared.numbers.NumberFault.TheVariants.{NotNumber, WideNumber}
 use Rattle.mps_fields.specs.Decimal.{Sign, unsigned, plus, minus, Exponent, Decimal, is_digit, is_digits, is_exponent_letter, fraction_digits, fits, means_number}
 
--- the sign in front of a text, and the text behind it
+-- the sign in front of a text
 abbrev pub sign_of : List ℕ → Sign
 sign_of [] = unsigned
 sign_of (byte ∷ bytes) = if byte == 43 then plus else (if byte == 45 then minus else unsigned)
@@ -16,7 +17,7 @@ abbrev pub after_sign : List ℕ → List ℕ
 after_sign [] = []
 after_sign (byte ∷ bytes) = if (byte == 43) || (byte == 45) then bytes else byte ∷ bytes
 
--- the digits in front of a text, and the text behind them
+-- the digits in front of a text
 abbrev pub front_digits : List ℕ → List ℕ
 front_digits text = take (prefix_len is_digit text) text
 
@@ -24,7 +25,7 @@ front_digits text = take (prefix_len is_digit text) text
 abbrev pub after_digits : List ℕ → List ℕ
 after_digits text = drop (prefix_len is_digit text) text
 
--- the digits behind a point in front of a text, and the text behind them
+-- the digits behind a point in front of a text
 abbrev pub fraction_of : List ℕ → Option (List ℕ)
 fraction_of [] = None
 fraction_of (byte ∷ bytes) = if byte == 46 then Some (front_digits bytes) else None

@@ -13,12 +13,16 @@ use frac128::Frac;
 pub enum NumberFault {
     /// The text is not written as a number.
     NotNumber,
-    /// The number leaves the range of exact fractions.
+    /// The number does not fit as it is written: its digits, or the power of ten beside them, are too many for 128 bits.
     WideNumber,
 }
 
 /// The exact value of a decimal number: an optional sign, digits with at most one point, and optionally one of
 /// `e`, `E`, `d`, `D` with a power of ten. Digits and exponents of any length are read; no memory is taken.
+///
+/// `NotNumber` exactly where the text is not written so. Of a number, let M be the whole number of all digits before the
+/// exponent and e the exponent less the number of digits behind the point: `WideNumber` exactly where M is not 0 and
+/// M * 10^e is above 2^127 - 1 in size for e of at least 0, or M is so for e below 0, or -e is above 38.
 pub fn number(text: &[u8]) -> Result<Frac, NumberFault>
     ensures value { result ≡ number_of text.now }
     ensures ok { (q : ℚ) → (result ≡ Ok q) ↔ MeansNumber text.now q }
