@@ -4,3 +4,4 @@ pub mod IntegerRows
 pub mod FlatRows
 pub mod SmallModels
 pub mod Scale
+pub mod FractionModel
