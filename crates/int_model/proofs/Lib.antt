@@ -7,5 +7,6 @@ pub mod PointLemmas
 pub mod LightLemmas
 pub mod DistinctLemmas
 pub mod ScaleLaws
+pub mod FractionPointLaws
 mod WorkedRows
 mod WorkedScales

@@ -5,3 +5,5 @@ pub mod FlatRows
 pub mod SmallModels
 pub mod Scale
 pub mod FractionModel
+pub mod FractionPoints
+pub mod FractionRows
