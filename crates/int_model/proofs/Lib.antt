@@ -10,3 +10,4 @@ pub mod ScaleLaws
 pub mod FractionPointLaws
 mod WorkedRows
 mod WorkedScales
+mod WorkedModels

@@ -7,3 +7,4 @@ pub mod Scale
 pub mod FractionModel
 pub mod FractionPoints
 pub mod FractionRows
+pub mod Large

@@ -6,6 +6,7 @@ mod dense;
 mod int_rows;
 mod model;
 mod model_rounding;
+mod part;
 mod rounding;
 mod sums;
 
@@ -13,5 +14,6 @@ pub use bounds::Bounds;
 pub use int_rows::IntRows;
 pub use model::{Column, Columns, Item, Items, Model, Name, Row, Rows};
 pub use model_rounding::integer_rows_keep_points;
+pub use part::Part;
 pub use rounding::rounding_keeps_points;
 pub use sequence::NoMemory;
