@@ -8,6 +8,7 @@ pub mod LightLemmas
 pub mod DistinctLemmas
 pub mod ScaleLaws
 pub mod FractionPointLaws
+pub mod LargeLaws
 mod WorkedRows
 mod WorkedScales
 mod WorkedModels

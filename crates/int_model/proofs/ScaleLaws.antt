@@ -100,7 +100,7 @@ whole_value m n q h p d =
     turned d u n v = simp expand (omega linear)
 
 -- the common denominator is above 0
-common_denominator_pos : (a : List ℚ) → 0 < common_denominator a
+pub common_denominator_pos : (a : List ℚ) → 0 < common_denominator a
 common_denominator_pos [] = omega arith
 common_denominator_pos (q ∷ a) = lcm_pos q.den (common_denominator a) (den_pos q) (common_denominator_pos a)
 

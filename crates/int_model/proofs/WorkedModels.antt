@@ -1,17 +1,13 @@
 -- Worked values: models with fractions, their integer rows, and what is large.
-use Rattle.std.proofs.Common.{◌≡◌, ◌≢◌, ◌^◌, List, [], ◌∷◌, ℤ, pos, negsuc, refl, arith, ⊎_elim}
+use Rattle.std.proofs.Common.{◌≡◌, [], ◌∷◌, pos, negsuc, refl}
 use Rattle.std.specs.Prelude.{Some, None}
 use Rattle.exact_math.specs.Gcd.{gcd, gcd_within, lcm}
-use Rattle.exact_math.specs.Rational.{ℚ, whole, frac, ◌+ℚ◌, ◌*ℚ◌}
-use Rattle.frac128.specs.Range.{InRange}
-use Rattle.int_model.specs.declared.bounds.Bounds.{Bounds}
-use Rattle.int_model.specs.FractionModel.{FractionItem, NamedRow, FractionColumn, FractionModel}
+use Rattle.exact_math.specs.Rational.{whole, frac, ◌+ℚ◌, ◌*ℚ◌}
+use Rattle.int_model.specs.FractionModel.{NamedRow, FractionModel}
 use Rattle.int_model.specs.FractionPoints.{value_at}
 use Rattle.int_model.specs.FractionRows.{fraction_row, integer_rows, cost, cut_value}
-use Rattle.int_model.specs.Scale.{FractionRow, integer_row}
-use Rattle.int_model.specs.WholeRows.{weight}
-use Rattle.int_model.specs.Large.{IsLargeRow, objective_weight, IsFirstLarge}
-use Rattle.int_model.specs.declared.part.Part.TheVariants.{Column, Row, Objective}
+use Rattle.int_model.specs.Scale.{integer_row}
+use Rattle.int_model.specs.Large.{objective_weight}
 
 -- 2x + 4y = 7
 even_sum : NamedRow

@@ -1,5 +1,5 @@
 -- How much the parts of a model weigh, and the first part that is too large to be worked with in 128 bits.
-use Rattle.std.specs.Prelude.{◌≢◌, ⊤, ◌⊎◌, ℕ, ◌+◌, ◌^◌, ◌<◌, ◌≤◌, ℤ, pos, List, [], ◌∷◌, length, map, Option, Some, None, nat_abs}
+use Rattle.std.specs.Prelude.{◌≢◌, ⊤, ◌⊎◌, ℕ, ◌+◌, ◌^◌, ◌<◌, ◌≤◌, ℤ, pos, List, ◌∷◌, length, map, Option, Some, None, nat_abs}
 use Rattle.std.specs.List.{Any, HoldsAt}
 use Rattle.exact_math.specs.Rational.{ℚ, whole, ◌*ℚ◌}
 use Rattle.frac128.specs.Range.{ProductInRange}
