@@ -9,6 +9,7 @@ pub mod DistinctLemmas
 pub mod ScaleLaws
 pub mod FractionPointLaws
 pub mod LargeLaws
+pub mod FirstLargeLaws
 mod WorkedRows
 mod WorkedScales
 mod WorkedModels

@@ -1,13 +1,16 @@
 -- Worked values: models with fractions, their integer rows, and what is large.
-use Rattle.std.proofs.Common.{◌≡◌, [], ◌∷◌, pos, negsuc, refl}
+use Rattle.std.proofs.Common.{◌≡◌, inl, inr, ◌+◌, ◌^◌, List, [], ◌∷◌, pos, negsuc, refl, sym, subst, arith}
 use Rattle.std.specs.Prelude.{Some, None}
 use Rattle.exact_math.specs.Gcd.{gcd, gcd_within, lcm}
 use Rattle.exact_math.specs.Rational.{whole, frac, ◌+ℚ◌, ◌*ℚ◌}
+use Rattle.frac128.specs.Range.{InRange}
+use Rattle.int_model.specs.declared.bounds.Bounds.{Bounds}
 use Rattle.int_model.specs.FractionModel.{NamedRow, FractionModel}
 use Rattle.int_model.specs.FractionPoints.{value_at}
 use Rattle.int_model.specs.FractionRows.{fraction_row, integer_rows, cost, cut_value}
-use Rattle.int_model.specs.Scale.{integer_row}
-use Rattle.int_model.specs.Large.{objective_weight}
+use Rattle.int_model.specs.Scale.{common_denominator, scale, FractionRow, integer_row}
+use Rattle.int_model.specs.WholeRows.{weight}
+use Rattle.int_model.specs.Large.{IsLargeRow, objective_weight}
 
 -- 2x + 4y = 7
 even_sum : NamedRow
@@ -67,3 +70,49 @@ cut_value_of_priced = refl
 weight_of_priced : objective_weight priced ≡ 81
 unfolding priced frac whole ◌+ℚ◌ ◌*ℚ◌ lcm gcd gcd_within
 weight_of_priced = refl
+
+-- one column between 0 and 1
+binary : List Bounds
+binary = record { low = pos 0; high = pos 1 } ∷ []
+
+-- x <= 2^96 - 1
+at_limit : FractionRow
+at_limit = record { factors = whole (pos 1) ∷ []; low = None; high = Some (whole (pos 79228162514264337593543950335)) }
+
+-- weighs 2^96
+weight_at_limit : weight binary (integer_row at_limit) ≡ 2 ^ 96
+unfolding binary at_limit frac whole ◌*ℚ◌ lcm gcd gcd_within
+weight_at_limit = refl
+
+-- and is not large
+side_at_limit : scale at_limit.factors *ℚ whole (pos 79228162514264337593543950335) ≡ whole (pos 79228162514264337593543950335)
+unfolding at_limit frac whole ◌*ℚ◌ lcm gcd gcd_within
+side_at_limit = refl
+
+denominator_at_limit : common_denominator at_limit.factors ≡ 1
+unfolding at_limit whole lcm gcd gcd_within
+denominator_at_limit = refl
+
+narrow_at_limit : InRange (whole (pos 79228162514264337593543950335))
+unfolding whole
+narrow_at_limit = record { num = omega arith; den = omega arith }
+
+not_large_at_limit : IsLargeRow binary at_limit → ⊥
+unfolding at_limit
+not_large_at_limit (inl heavy) = omega (arith, heavy, weight_at_limit)
+not_large_at_limit (inr (some, inl wide)) = omega (arith, wide, denominator_at_limit)
+not_large_at_limit (inr (some, inr (inl low))) = low
+not_large_at_limit (inr (some, inr (inr high))) = high (subst InRange (sym side_at_limit) narrow_at_limit)
+
+-- x <= 2^96
+above_limit : FractionRow
+above_limit = record { factors = whole (pos 1) ∷ []; low = None; high = Some (whole (pos 79228162514264337593543950336)) }
+
+-- weighs one more
+weight_above_limit : weight binary (integer_row above_limit) ≡ 2 ^ 96 + 1
+unfolding binary above_limit frac whole ◌*ℚ◌ lcm gcd gcd_within
+weight_above_limit = refl
+
+-- and is large
+large_above_limit : IsLargeRow binary above_limit
+large_above_limit = inl (omega (arith, weight_above_limit))
