@@ -6,6 +6,7 @@ use Rattle.std.proofs.Math.Nat.{one-dvd, mul-le-mul_left}
 use Rattle.std.proofs.lemmas.Nat.Gcd.{dvd_trans, dvd_antisymm, le_of_dvd}
 use Rattle.std.proofs.lemmas.Bool.{cases_lt}
 use Rattle.std.proofs.lemmas.List.{length-map}
+use Rattle.std.proofs.lemmas.List.FromFn.{length-map-range_with_len}
 use Rattle.exact_math.specs.Gcd.{lcm}
 use Rattle.exact_math.specs.Rational.{ℚ, whole, ◌*ℚ◌}
 use Rattle.exact_math.proofs.RationalLaws.{den_pos}
@@ -13,8 +14,8 @@ use Rattle.exact_math.proofs.LcmLaws.{dvd_lcm_left, dvd_lcm_right, lcm_dvd}
 use Rattle.int_model.specs.declared.bounds.Bounds.{Bounds}
 use Rattle.int_model.specs.WholeRows.{WholeRow, reach, span, size_of_side, weight}
 use Rattle.int_model.specs.Scale.{common_denominator, scale, scaled, FractionRow, integer_row}
-use Rattle.int_model.specs.FractionModel.{FractionColumn, FractionModel}
-use Rattle.int_model.specs.FractionRows.{rounded_bounds, integer_rows, objective_of}
+use Rattle.int_model.specs.FractionModel.{FractionItem, FractionColumn, FractionModel}
+use Rattle.int_model.specs.FractionRows.{coefficient_of, coefficients_of, rounded_bounds, integer_rows, objective_of}
 use Rattle.int_model.proofs.ScaleLaws.{common_denominator_pos}
 use Rattle.int_model.specs.Large.{IsHeavy, HasWideDenominator, IsLargeColumn, IsLargeRow, multiple, objective_numbers, objective_weight, IsLargeObjective}
 
@@ -137,6 +138,13 @@ objective_sums model k h =
     let m = common_denominator (objective_numbers model) in
     omega (arith, objective_light model h, span-take_le k (map (multiple m) (objective_of model)) (integer_rows model).box)
 
+-- a term of an objective that is not large
+pub objective_term : (model : FractionModel) (k : ℕ) (d : ℤ) (e : Bounds) → (IsLargeObjective model → ⊥) → k < length (objective_of model) → length (objective_of model) ≡ length (integer_rows model).box → nat_abs (get_or (map (multiple (common_denominator (objective_numbers model))) (objective_of model)) k d) * reach (get_or (integer_rows model).box k e) ≤ 2 ^ 96
+objective_term model k d e h l long =
+    let m = common_denominator (objective_numbers model) in
+    let same : length (map (multiple m) (objective_of model)) ≡ length (objective_of model) = length-map (objective_of model) (multiple m) in
+    omega (arith, objective_light model h, span-term_le k (map (multiple m) (objective_of model)) (integer_rows model).box d e (omega (arith, same)) (omega arith))
+
 -- ---- what makes a part large early
 
 -- the first k terms of a row
@@ -163,3 +171,20 @@ large_from_objective_sum k model h =
 -- a common denominator of the first k of the objective's numbers
 pub large_from_objective_denominator : (k : ℕ) (model : FractionModel) → HasWideDenominator (take k (objective_numbers model)) → IsLargeObjective model
 large_from_objective_denominator k model h = inr (wide_from_part k (objective_numbers model) h)
+
+-- a single coefficient of the objective
+pub large_from_objective_factor : (k : ℕ) (d : ℤ) (model : FractionModel) → k < length (objective_of model) → length (objective_of model) ≡ length (integer_rows model).box → IsHeavy (nat_abs (get_or (map (multiple (common_denominator (objective_numbers model))) (objective_of model)) k d)) → IsLargeObjective model
+large_from_objective_factor k d model h long heavy =
+    let m = common_denominator (objective_numbers model) in
+    let box = (integer_rows model).box in
+    let zero_bounds : Bounds = record { low = pos 0; high = pos 0 } in
+    let multiples = map (multiple m) (objective_of model) in
+    let same : length multiples ≡ length (objective_of model) = length-map (objective_of model) (multiple m) in
+    inl (omega (arith, heavy, factor_le_term (get_or multiples k d) (get_or box k zero_bounds), span-term_le k multiples box d zero_bounds (omega (arith, same)) (omega arith)))
+
+-- the lists of a model are as long as its columns
+pub box_long : (model : FractionModel) → length (integer_rows model).box ≡ length model.columns
+box_long model = length-map model.columns rounded_bounds
+
+pub coefficients_long : (n : ℕ) (items : List FractionItem) → length (coefficients_of n items) ≡ n
+coefficients_long n items = length-map-range_with_len (coefficient_of items) 0 n

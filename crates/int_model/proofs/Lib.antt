@@ -10,6 +10,7 @@ pub mod ScaleLaws
 pub mod FractionPointLaws
 pub mod LargeLaws
 pub mod FirstLargeLaws
+pub mod ScalingLaws
 mod WorkedRows
 mod WorkedScales
 mod WorkedModels
