@@ -1,8 +1,11 @@
 -- Worked values: models with fractions, their integer rows, and what is large.
-use Rattle.std.proofs.Common.{◌≡◌, inl, inr, ◌+◌, ◌^◌, List, [], ◌∷◌, pos, negsuc, refl, sym, subst, arith}
+use Rattle.std.proofs.Common.{◌≡◌, ◌≢◌, inl, inr, ◌+◌, ◌-◌, ◌^◌, List, [], ◌∷◌, pos, negsuc, refl, sym, subst, arith}
 use Rattle.std.specs.Prelude.{Some, None}
+use Rattle.std.specs.List.{Any}
 use Rattle.exact_math.specs.Gcd.{gcd, gcd_within, lcm}
 use Rattle.exact_math.specs.Rational.{whole, frac, ◌+ℚ◌, ◌*ℚ◌}
+use Rattle.exact_math.proofs.IntegerRing.{linear}
+use Rattle.exact_math.proofs.RationalLaws.{num_zero}
 use Rattle.frac128.specs.Range.{InRange}
 use Rattle.int_model.specs.declared.bounds.Bounds.{Bounds}
 use Rattle.int_model.specs.FractionModel.{NamedRow, FractionModel}
@@ -116,3 +119,65 @@ weight_above_limit = refl
 -- and is large
 large_above_limit : IsLargeRow binary above_limit
 large_above_limit = inl (omega (arith, weight_above_limit))
+
+-- two columns between 0 and 1
+two_binaries : List Bounds
+two_binaries = record { low = pos 0; high = pos 1 } ∷ record { low = pos 0; high = pos 1 } ∷ []
+
+-- x/2^64 + y/(2^64 - 1) >= 0
+fine_coefficients : FractionRow
+fine_coefficients = record {
+  factors = frac (pos 1) 18446744073709551616 ∷ frac (pos 1) 18446744073709551615 ∷ [];
+  low = Some (whole (pos 0));
+  high = None;
+}
+
+-- weighs less than 2^65
+weight_of_fine_coefficients : weight two_binaries (integer_row fine_coefficients) ≡ 36893488147419103231
+unfolding two_binaries fine_coefficients frac whole ◌*ℚ◌ lcm gcd gcd_within
+weight_of_fine_coefficients = refl
+
+-- and is large by its common denominator, 2^128 - 2^64
+denominator_of_fine_coefficients : common_denominator fine_coefficients.factors ≡ 2 ^ 128 - 2 ^ 64
+unfolding fine_coefficients frac lcm gcd gcd_within
+denominator_of_fine_coefficients = refl
+
+first_coefficient_is_some : Any (λ q. q ≢ whole (pos 0)) fine_coefficients.factors
+unfolding fine_coefficients frac whole gcd gcd_within
+first_coefficient_is_some =
+    (0, frac (pos 1) 18446744073709551616, omega arith, refl, λ e. one_is_some (num_zero _ e))
+  where
+    one_is_some : pos 1 ≢ pos 0
+    one_is_some e = omega (linear, e)
+
+large_by_denominator : IsLargeRow two_binaries fine_coefficients
+large_by_denominator = inr (first_coefficient_is_some, inl (omega (arith, denominator_of_fine_coefficients)))
+
+-- 2x >= 1/(2^127 - 1)
+fine_side : FractionRow
+fine_side = record {
+  factors = whole (pos 2) ∷ [];
+  low = Some (frac (pos 1) 170141183460469231731687303715884105727);
+  high = None;
+}
+
+-- is x >= 1
+row_of_fine_side : integer_row fine_side ≡ record { factors = pos 1 ∷ []; low = Some (pos 1); high = None }
+unfolding fine_side frac whole ◌*ℚ◌ lcm gcd gcd_within
+row_of_fine_side = refl
+
+-- and is large by its side times the scale, 1/(2^128 - 2)
+side_of_fine_side : (scale fine_side.factors *ℚ frac (pos 1) 170141183460469231731687303715884105727).den ≡ 2 ^ 128 - 2
+unfolding fine_side frac whole ◌*ℚ◌ lcm gcd gcd_within
+side_of_fine_side = refl
+
+coefficient_is_some : Any (λ q. q ≢ whole (pos 0)) fine_side.factors
+unfolding fine_side whole
+coefficient_is_some = (0, whole (pos 2), omega arith, refl, λ e. two_is_some (num_zero _ e))
+  where
+    two_is_some : pos 2 ≢ pos 0
+    two_is_some e = omega (linear, e)
+
+large_by_side : IsLargeRow binary fine_side
+unfolding fine_side
+large_by_side = inr (coefficient_is_some, inr (inl (λ range. omega (arith, range.den, side_of_fine_side))))

@@ -28,13 +28,13 @@ LeavesRange factor (Some side) = ProductInRange factor side → ⊥
 abbrev pub IsLargeColumn : FractionColumn → Type 0
 IsLargeColumn column = IsHeavy (reach (rounded_bounds column))
 
--- the scale, or a side times the scale, is out of range
-abbrev pub IsHardToScale : FractionRow → Type 0
-IsHardToScale row = HasWideDenominator row.factors ⊎ (LeavesRange (scale row.factors) row.low ⊎ LeavesRange (scale row.factors) row.high)
+-- the common denominator of the coefficients is wide, or a side times the scale is out of range
+abbrev pub ScalesOutOfRange : FractionRow → Type 0
+ScalesOutOfRange row = HasWideDenominator row.factors ⊎ (LeavesRange (scale row.factors) row.low ⊎ LeavesRange (scale row.factors) row.high)
 
--- over this box the integer row is heavy, or there is a coefficient other than 0 and the row is hard to scale
+-- over this box the integer row is heavy, or there is a coefficient other than 0 and the row scales out of range
 abbrev pub IsLargeRow : List Bounds → FractionRow → Type 0
-IsLargeRow box row = IsHeavy (weight box (integer_row row)) ⊎ (Any (λ q. q ≢ whole (pos 0)) row.factors × IsHardToScale row)
+IsLargeRow box row = IsHeavy (weight box (integer_row row)) ⊎ (Any (λ q. q ≢ whole (pos 0)) row.factors × ScalesOutOfRange row)
 
 -- m times a number, where that is whole
 abbrev pub multiple : ℕ → ℚ → ℤ
