@@ -166,6 +166,11 @@ row_of_fine_side : integer_row fine_side ≡ record { factors = pos 1 ∷ []; lo
 unfolding fine_side frac whole ◌*ℚ◌ lcm gcd gcd_within
 row_of_fine_side = refl
 
+-- which weighs 2 where x lies between 0 and 1
+weight_of_fine_side : weight binary (integer_row fine_side) ≡ 2
+unfolding binary fine_side frac whole ◌*ℚ◌ lcm gcd gcd_within
+weight_of_fine_side = refl
+
 -- and is large by its side times the scale, 1/(2^128 - 2)
 side_of_fine_side : (scale fine_side.factors *ℚ frac (pos 1) 170141183460469231731687303715884105727).den ≡ 2 ^ 128 - 2
 unfolding fine_side frac whole ◌*ℚ◌ lcm gcd gcd_within
