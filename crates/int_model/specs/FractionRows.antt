@@ -37,7 +37,7 @@ integer_rows model = record {
 abbrev pub objective_of : FractionModel → List ℚ
 objective_of model = coefficients_of (length model.columns) model.objective
 
--- the objective form: the positive multiple of the objective that is whole with greatest common divisor 1, or all 0
+-- the objective times its scale: whole numbers without a common divisor above 1, or zeros only
 abbrev pub cost : FractionModel → List ℤ
 cost model = scaled (objective_of model)
 

@@ -65,7 +65,7 @@ IsLargePart model (Column j) = (j < length model.columns) × HoldsAt IsLargeColu
 IsLargePart model (Row i) = (i < length model.rows) × HoldsAt (IsLargeRowOf model) model.rows i
 IsLargePart model Objective = IsLargeObjective model
 
--- columns come in order, then rows in order, then the objective
+-- by number among columns and among rows; a column before each row, and the objective last
 abbrev pub ComesBefore : Part → Part → Type 0
 ComesBefore (Column j) (Column k) = j < k
 ComesBefore (Column j) (Row i) = ⊤
