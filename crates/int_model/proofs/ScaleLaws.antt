@@ -80,7 +80,7 @@ frac_times m n q h =
     ap (λ t. frac (pos m) n *ℚ t) (sym (frac-self q)) ∙ frac-mul (pos m) q.num n q.den h (den_pos q)
 
 -- the product of a fraction and a number, if it is whole
-cross_of_whole : (m n : ℕ) (q : ℚ) (z : ℤ) → 0 < n → frac (pos m) n *ℚ q ≡ whole z → m * nat_abs q.num ≡ nat_abs z * (n * q.den)
+pub cross_of_whole : (m n : ℕ) (q : ℚ) (z : ℤ) → 0 < n → frac (pos m) n *ℚ q ≡ whole z → m * nat_abs q.num ≡ nat_abs z * (n * q.den)
 cross_of_whole m n q z h e =
     let cross : (pos m *ℤ q.num) *ℤ pos 1 ≡ z *ℤ pos (n * q.den) = cross_from_same (pos m *ℤ q.num) z (n * q.den) 1 (mul-pos h (den_pos q)) (omega arith) (sym (frac_times m n q h) ∙ e ∙ whole-frac z) in
     sym (abs_mul (pos m) q.num) ∙ ap nat_abs (by_one (pos m *ℤ q.num) ∙ cross) ∙ abs_mul z (pos (n * q.den))
@@ -100,7 +100,7 @@ whole_value m n q h p d =
     turned d u n v = simp expand (omega linear)
 
 -- the common denominator is above 0
-common_denominator_pos : (a : List ℚ) → 0 < common_denominator a
+pub common_denominator_pos : (a : List ℚ) → 0 < common_denominator a
 common_denominator_pos [] = omega arith
 common_denominator_pos (q ∷ a) = lcm_pos q.den (common_denominator a) (den_pos q) (common_denominator_pos a)
 
@@ -124,7 +124,7 @@ scale_pos a = over_or_one_pos (common_denominator a) (common_numerator a) (commo
 -- ---- the scale makes the coefficients whole
 
 -- where 0 divides the numerator the number is 0
-zero_from_dvd : (q : ℚ) → 0 ∣ nat_abs q.num → q ≡ whole (pos 0)
+pub zero_from_dvd : (q : ℚ) → 0 ∣ nat_abs q.num → q ≡ whole (pos 0)
 zero_from_dvd q h =
     zero_from_num q (none q.num (sym (mul-div_cancel' 0 h) ∙ zero-mul (nat_abs q.num / 0)))
   where
@@ -132,7 +132,7 @@ zero_from_dvd q h =
     none z e = omega (linear, e)
 
 -- the number of a common multiple over a common divisor makes a coefficient whole
-whole_product : (m n : ℕ) (q : ℚ) → q.den ∣ m → n ∣ nat_abs q.num → whole (over_or_one m n *ℚ q).num ≡ over_or_one m n *ℚ q
+pub whole_product : (m n : ℕ) (q : ℚ) → q.den ∣ m → n ∣ nat_abs q.num → whole (over_or_one m n *ℚ q).num ≡ over_or_one m n *ℚ q
 whole_product m zero q p d =
     num_is (whole (pos 1) *ℚ q) (pos 0) (ring.mul_comm (whole (pos 1)) q ∙ ring.mul_one q ∙ zero_from_dvd q d)
 whole_product m (suc n) q p d =

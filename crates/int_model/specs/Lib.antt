@@ -4,3 +4,7 @@ pub mod IntegerRows
 pub mod FlatRows
 pub mod SmallModels
 pub mod Scale
+pub mod FractionModel
+pub mod FractionPoints
+pub mod FractionRows
+pub mod Large

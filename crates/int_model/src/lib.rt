@@ -5,11 +5,15 @@ mod bounds;
 mod dense;
 mod int_rows;
 mod model;
+mod model_rounding;
+mod part;
 mod rounding;
 mod sums;
 
 pub use bounds::Bounds;
 pub use int_rows::IntRows;
 pub use model::{Column, Columns, Item, Items, Model, Name, Row, Rows};
+pub use model_rounding::integer_rows_keep_points;
+pub use part::{Part, first_large_part_is_one};
 pub use rounding::rounding_keeps_points;
 pub use sequence::NoMemory;
