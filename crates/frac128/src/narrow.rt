@@ -3,7 +3,7 @@ ghost use Rattle.std.specs.Prelude.{◌≡◌, ◌^◌, ◌<◌, ◌*◌, pos, n
 ghost use Rattle.frac128.specs.Range.{IsNarrow};
 ghost use Rattle.frac128.specs.Sign.{with_sign};
 
-/// The exact result leaves the range of `Frac`.
+/// The result leaves the range of `Frac`, or for `add` and `sub` one of the four numbers on the way to it does.
 #[derive(Clone, Copy, Debug, PartialEq, Eq)]
 pub struct Wide;
 

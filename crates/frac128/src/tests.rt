@@ -49,6 +49,12 @@ fn adds_and_subtracts(rt: HostRuntime) {
     let half = of(&rt, 1, 2);
     assert_eq!(rt; terms(half_most.add(&half)), Err(Wide));
 
+    // The cross product 2^126 * 4 is too large, though the result (2^128 - (2^128 - 1)) / 12 is not.
+    let third_of_power = of(&rt, 1 << 126, 3);
+    let quarter_below = of(&rt, -0x55555555555555555555555555555555, 4);
+    assert_eq!(rt; terms(third_of_power.add(&quarter_below)), Err(Wide));
+    assert_eq!(rt; terms(quarter_below.add(&third_of_power)), Err(Wide));
+
     // A common denominator of nearly 2^126, and one of nearly 2^254.
     let left = of(&rt, 1, 3 << 124);
     let right = of(&rt, 2, 3 << 123);
