@@ -100,6 +100,13 @@ fn compares(rt: HostRuntime) {
     assert_eq!(rt; low.neg().cmp(&high.neg()), Ordering::Greater);
     assert_eq!(rt; low.neg().cmp(&high), Ordering::Less);
     assert_eq!(rt; high.cmp(&high), Ordering::Equal);
+
+    // Over one denominator the numerators decide.
+    let few = of(&rt, 1, MAX);
+    let more = of(&rt, 2, MAX);
+    assert_eq!(rt; few.cmp(&more), Ordering::Less);
+    assert_eq!(rt; few.neg().cmp(&more.neg()), Ordering::Greater);
+    assert_eq!(rt; few.neg().cmp(&few), Ordering::Less);
     assert!(rt; of(&rt, 1, 3) < of(&rt, 1, 2));
     assert!(rt; of(&rt, 2, 4) == of(&rt, 1, 2));
     assert!(rt; of(&rt, 1, 2) != of(&rt, -1, 2));
@@ -113,6 +120,8 @@ fn finds_common_divisors(rt: HostRuntime) {
         (12, -18, 6),
         (MAX, MAX, MAX),
         (3 << 100, 9 << 90, 3 << 90),
+        (15, 25 << 100, 5),
+        (25 << 100, 15, 5),
         (MAX, MAX - 1, 1),
     ] {
         assert!(rt; a != i128::MIN && b != i128::MIN);
