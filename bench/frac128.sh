@@ -32,32 +32,64 @@ use frac128::Frac;
 const COUNT: u32 = 1024;
 const ROUNDS: u32 = 201;
 
-// Larger operands have one denominator, so that their sums are in range.
-const LIMIT_OF_DRAWN: u128 = 1 << 64;
+const SEED: u64 = 88172645463325252;
 
 fn next(state: u64) -> u64 {
     state.wrapping_mul(6364136223846793005).wrapping_add(1442695040888963407)
 }
 
-fn operands(alloc: Global, mask: u128) -> Result<Vec<Frac>, AllocError> {
+// The low bits of a state repeat early: the high ones are mixed in.
+fn word(state: u64) -> u64 {
+    state ^ (state >> 32)
+}
+
+fn drawn(high: u64, low: u64, mask: u128) -> u128 {
+    (u128::from(word(high)) << 64 | u128::from(word(low))) & mask
+}
+
+fn fraction(negative: bool, size: u128, den: u128) -> Option<Frac> {
+    let size = i128::try_from(size).ok()?;
+    let den = i128::try_from(den).ok()?;
+    if den == 0 || size == i128::MIN {
+        return None;
+    }
+    Frac::new(if negative { -size } else { size }, den).ok()
+}
+
+// Numerators as drawn; denominators too, or parts of the one that is given.
+fn operands(alloc: Global, mask: u128, common: Option<u128>) -> Result<Vec<Frac>, AllocError> {
     let mut all = Vec::new(alloc);
-    let mut state = 88172645463325252u64;
+    let mut state = SEED;
     for _ in 0..COUNT {
         let first = next(state);
         let second = next(first);
         let third = next(second);
         state = next(third);
-        let size = (u128::from(first) * 18446744073709551616 + u128::from(second)) & mask;
-        let drawn = (u128::from(third) * 18446744073709551616 + u128::from(state)) & mask | 1;
-        let den = if mask > LIMIT_OF_DRAWN { mask } else { drawn };
-        if let (Ok(size), Ok(den)) = (i128::try_from(size), i128::try_from(den)) {
-            if den == 0 || size == i128::MIN {
-                continue;
-            }
-            let num = if first % 2 == 0 { size } else { -size };
-            if let Ok(q) = Frac::new(num, den) {
-                all.push(q)?;
-            }
+        let size = drawn(first, second, mask);
+        let den = common.unwrap_or(drawn(third, state, mask).max(1));
+        if let Some(q) = fraction(first >> 63 == 1, size, den) {
+            all.push(q)?;
+        }
+    }
+    Ok(all)
+}
+
+// Terms of 120 bits, of which neighbours have 113 crosswise in common, so that their products are in range.
+fn chain(alloc: Global, mask: u128) -> Result<Vec<Frac>, AllocError> {
+    let mut all = Vec::new(alloc);
+    let mut state = SEED;
+    let mut above = mask;
+    for _ in 0..COUNT {
+        let first = next(state);
+        let second = next(first);
+        let third = next(second);
+        state = next(third);
+        let below = drawn(first, second, mask).max(1);
+        let size = above.wrapping_mul(u128::from(word(third) & 127 | 1));
+        let den = below.wrapping_mul(u128::from(word(state) & 127 | 1));
+        above = below;
+        if let Some(q) = fraction(first >> 63 == 1, size, den) {
+            all.push(q)?;
         }
     }
     Ok(all)
@@ -95,7 +127,7 @@ fn products(all: &[Frac]) -> (u64, i128) {
     (wide, check)
 }
 
-fn comparisons(all: &[Frac]) -> (u64, i128) {
+fn comparisons(all: &[Frac]) -> u64 {
     let mut less = 0u64;
     for _ in 0..ROUNDS {
         for pair in all.windows(2) {
@@ -106,39 +138,49 @@ fn comparisons(all: &[Frac]) -> (u64, i128) {
             }
         }
     }
-    (less, 0)
+    less
+}
+
+// Tenths of nanoseconds of a call.
+fn tenths(nanos: u128) -> u128 {
+    nanos.saturating_mul(10) / (u128::from(COUNT) * u128::from(ROUNDS))
+}
+
+fn measure(rt: &HostRuntime, bits: u32, summands: &[Frac], factors: &[Frac], others: &[Frac]) -> io::Result<()> {
+    let mut add = u128::MAX;
+    let mut mul = u128::MAX;
+    let mut cmp = u128::MAX;
+    let mut sum = (0, 0);
+    let mut product = (0, 0);
+    let mut order = 0;
+
+    // The least of three passes.
+    for _ in 0..3 {
+        let start = Instant::now(rt)?;
+        sum = sums(summands);
+        add = add.min(start.elapsed(rt)?.as_nanos());
+        let start = Instant::now(rt)?;
+        product = products(factors);
+        mul = mul.min(start.elapsed(rt)?.as_nanos());
+        let start = Instant::now(rt)?;
+        order = comparisons(others);
+        cmp = cmp.min(start.elapsed(rt)?.as_nanos());
+    }
+    let (add, mul, cmp) = (tenths(add), tenths(mul), tenths(cmp));
+    println!(rt; "frac128 {bits} bits: add {}.{} mul {}.{} cmp {}.{} ns  (wide {} {}, check {} {} {order})", add / 10, add % 10, mul / 10, mul % 10, cmp / 10, cmp % 10, sum.0, product.0, sum.1, product.1)?;
+    Ok(())
 }
 
 fn main(rt: HostRuntime) -> io::Result<()> {
-    for (bits, mask) in [
-        (30, 1073741823u128),
-        (60, 1152921504606846975u128),
-        (120, 1329227995784915872903807060280344575u128),
-    ] {
-        let all = operands(rt.alloc(), mask)?;
-        let mut add = u128::MAX;
-        let mut mul = u128::MAX;
-        let mut cmp = u128::MAX;
-        let mut sum = (0, 0);
-        let mut product = (0, 0);
-        let mut order = (0, 0);
-
-        // The least of three passes.
-        for _ in 0..3 {
-            let start = Instant::now(&rt)?;
-            sum = sums(all.as_slice());
-            add = add.min(start.elapsed(&rt)?.as_nanos());
-            let start = Instant::now(&rt)?;
-            product = products(all.as_slice());
-            mul = mul.min(start.elapsed(&rt)?.as_nanos());
-            let start = Instant::now(&rt)?;
-            order = comparisons(all.as_slice());
-            cmp = cmp.min(start.elapsed(&rt)?.as_nanos());
-        }
-        let calls = u128::from(COUNT) * u128::from(ROUNDS);
-        println!(rt; "frac128 {bits} bits: add {} mul {} cmp {} ns  (wide {} {}, check {} {} {})", add / calls, mul / calls, cmp / calls, sum.0, product.0, sum.1, product.1, order.0)?;
+    for (bits, mask) in [(30, 1073741823u128), (60, 1152921504606846975u128)] {
+        let all = operands(rt.alloc(), mask, None)?;
+        measure(&rt, bits, all.as_slice(), all.as_slice(), all.as_slice())?;
     }
-    Ok(())
+    let mask = 1329227995784915872903807060280344575u128;
+    let summands = operands(rt.alloc(), mask, Some(mask))?;
+    let factors = chain(rt.alloc(), 10384593717069655257060992658440191)?;
+    let others = operands(rt.alloc(), mask, None)?;
+    measure(&rt, 120, summands.as_slice(), factors.as_slice(), others.as_slice())
 }
 EOF
 
@@ -152,8 +194,9 @@ use std::time::Instant;
 
 const COUNT: u32 = 1024;
 const ROUNDS: u32 = 201;
+const PASSES: u64 = 3;
+const SEED: u64 = 88172645463325252;
 const LIMIT: u128 = 1 << 127;
-const LIMIT_OF_DRAWN: u128 = 1 << 64;
 
 fn gcd(mut a: u128, mut b: u128) -> u128 {
     while b != 0 {
@@ -234,24 +277,49 @@ fn next(state: u64) -> u64 {
     state.wrapping_mul(6364136223846793005).wrapping_add(1442695040888963407)
 }
 
-fn operands(mask: u128) -> Vec<Frac> {
+fn word(state: u64) -> u64 {
+    state ^ (state >> 32)
+}
+
+fn drawn(high: u64, low: u64, mask: u128) -> u128 {
+    ((word(high) as u128) << 64 | word(low) as u128) & mask
+}
+
+fn operands(mask: u128, common: Option<u128>) -> Vec<Frac> {
     let mut all = Vec::new();
-    let mut state = 88172645463325252u64;
+    let mut state = SEED;
     for _ in 0..COUNT {
         let first = next(state);
         let second = next(first);
         let third = next(second);
         state = next(third);
-        let size = ((first as u128) << 64 | second as u128) & mask;
-        let drawn = ((third as u128) << 64 | state as u128) & mask | 1;
-        let den = if mask > LIMIT_OF_DRAWN { mask } else { drawn };
-        all.push(Frac::new(signed(first % 2 != 0, size), den));
+        let size = drawn(first, second, mask);
+        let den = common.unwrap_or(drawn(third, state, mask).max(1));
+        all.push(Frac::new(signed(first >> 63 == 1, size), den));
+    }
+    all
+}
+
+fn chain(mask: u128) -> Vec<Frac> {
+    let mut all = Vec::new();
+    let mut state = SEED;
+    let mut above = mask;
+    for _ in 0..COUNT {
+        let first = next(state);
+        let second = next(first);
+        let third = next(second);
+        state = next(third);
+        let below = drawn(first, second, mask).max(1);
+        let size = above * (word(third) & 127 | 1) as u128;
+        let den = below * (word(state) & 127 | 1) as u128;
+        above = below;
+        all.push(Frac::new(signed(first >> 63 == 1, size), den));
     }
     all
 }
 
 // The least of three passes.
-fn timed(all: &[Frac], mut call: impl FnMut(&Frac, &Frac)) -> u128 {
+fn timed(all: &[Frac], mut call: impl FnMut(&Frac, &Frac)) -> f64 {
     let pass = |_| {
         let start = Instant::now();
         for _ in 0..ROUNDS {
@@ -259,27 +327,34 @@ fn timed(all: &[Frac], mut call: impl FnMut(&Frac, &Frac)) -> u128 {
                 call(&pair[0], &pair[1]);
             }
         }
-        start.elapsed().as_nanos() / (COUNT as u128 * ROUNDS as u128)
+        start.elapsed().as_nanos()
     };
-    (0..3).map(pass).min().unwrap()
+    (0..PASSES).map(pass).min().unwrap() as f64 / (COUNT as f64 * ROUNDS as f64)
+}
+
+fn measure(bits: u32, summands: &[Frac], factors: &[Frac], others: &[Frac]) {
+    let (mut wide_sums, mut wide_products, mut less) = (0u64, 0u64, 0u64);
+    let (mut sums, mut products) = (0i128, 0i128);
+    let add = timed(summands, |p, q| match p.add(q) {
+        Some(r) => sums ^= r.num ^ r.den as i128,
+        None => wide_sums += 1,
+    });
+    let mul = timed(factors, |p, q| match p.mul(q) {
+        Some(r) => products ^= r.num ^ r.den as i128,
+        None => wide_products += 1,
+    });
+    let cmp = timed(others, |p, q| less += (p.cmp(q) == Ordering::Less) as u64);
+    let (wide_sums, wide_products, less) = (wide_sums / PASSES, wide_products / PASSES, less / PASSES);
+    println!("plain   {bits} bits: add {add:.1} mul {mul:.1} cmp {cmp:.1} ns  (wide {wide_sums} {wide_products}, check {sums} {products} {less})");
 }
 
 fn main() {
-    for bits in [30, 60, 120] {
-        let all = operands((1 << bits) - 1);
-        let (mut wide_sums, mut wide_products, mut less) = (0u64, 0u64, 0u64);
-        let (mut sums, mut products) = (0i128, 0i128);
-        let add = timed(&all, |p, q| match p.add(q) {
-            Some(r) => sums ^= r.num ^ r.den as i128,
-            None => wide_sums += 1,
-        });
-        let mul = timed(&all, |p, q| match p.mul(q) {
-            Some(r) => products ^= r.num ^ r.den as i128,
-            None => wide_products += 1,
-        });
-        let cmp = timed(&all, |p, q| less += (p.cmp(q) == Ordering::Less) as u64);
-        println!("plain   {bits} bits: add {add} mul {mul} cmp {cmp} ns  (wide {wide_sums} {wide_products}, check {sums} {products} {less})");
+    for bits in [30, 60] {
+        let all = operands((1 << bits) - 1, None);
+        measure(bits, &all, &all, &all);
     }
+    let mask = (1 << 120) - 1;
+    measure(120, &operands(mask, Some(mask)), &chain((1 << 113) - 1), &operands(mask, None));
 }
 EOF
     rustc -O -o "$work/plain" "$work/plain.rs"

@@ -1,5 +1,5 @@
 -- The greatest common divisor by shifts and differences: factors of 2 drop out beside an odd number.
-use Rattle.std.proofs.Common.{◌≡◌, ◌≢◌, ⊎_elim, ℕ, zero, suc, ◌+◌, ◌-◌, ◌*◌, ◌/◌, ◌%◌, ◌^◌, ◌<◌, min, sym, ap, ap₂, ◌∙◌, subst, arith, mul_comm, mul_assoc, mod-eq_of_lt, pow-suc, pow-add, one-add}
+use Rattle.std.proofs.Common.{max, ◌≡◌, ◌≢◌, ⊎_elim, ℕ, zero, suc, ◌+◌, ◌-◌, ◌*◌, ◌/◌, ◌%◌, ◌^◌, ◌<◌, min, sym, ap, ap₂, ◌∙◌, subst, arith, mul_comm, mul_assoc, mod-eq_of_lt, pow-suc, pow-add, one-add}
 use Rattle.std.specs.Int.{Width, abs_diff, trailing_zeros}
 use mir.Val.{bits}
 use Rattle.std.proofs.Math.Nat.{mod-one}
@@ -46,6 +46,13 @@ module _ (w : Width) (n : ℕ) (some : 0 < n) (fits : n < 2 ^ bits w) where
   pub gcd_odd_part : (m : ℕ) → m % 2 ≡ 1 → gcd (n / 2 ^ trailing_zeros w n) m ≡ gcd n m
   gcd_odd_part m odd =
       sym (gcd-strip (2 ^ trailing_zeros w n) (n / 2 ^ trailing_zeros w n) m (gcd_power _ m odd)) ∙ ap (λ k. gcd k m) split
+
+-- the greater number first
+pub ordered : (x y : ℕ) → gcd (max x y) (min x y) ≡ gcd x y
+ordered x y = ⊎_elim
+    (λ h. let low : min x y ≡ x = omega arith in let high : max x y ≡ y = omega arith in ap₂ gcd high low ∙ gcd_comm y x)
+    (λ h. let low : min x y ≡ y = omega arith in let high : max x y ≡ x = omega arith in ap₂ gcd high low)
+    (cases_lt x y)
 
 -- one step: the smaller number, and the difference
 apart : (x y : ℕ) → x ≢ y → (0 < abs_diff x y) × (gcd (abs_diff x y) (min x y) ≡ gcd x y)

@@ -5,11 +5,12 @@ use Rattle.std.proofs.Common.{Ordering, eqb, eqb-true, eq-eqb}
 use Rattle.std.specs.Cmp.{both_ways}
 use Rattle.std.specs.Ordering.{nat_cmp, int_cmp, is_eq, MatchOrdering}
 use Rattle.std.proofs.lemmas.Bool.Decides.{nat_tests}
-use Rattle.std.proofs.lemmas.Cmp.{ranked, by_ranked, tied_itself}
+use Rattle.std.proofs.lemmas.Cmp.{ranked, int_ranked, by_ranked, tied_itself}
 use Rattle.exact_math.specs.Rational.{ℚ, rational_cmp}
 use Rattle.exact_math.specs.RationalCode.{den_pos, same_terms}
 use Rattle.exact_math.proofs.RationalOrder.{rational_cmp_total, ranked as rational_ranked}
-use Rattle.exact_math.proofs.IntegerRing.{linear}
+use Rattle.exact_math.proofs.IntegerOrder.{mul_lt}
+use Rattle.exact_math.proofs.IntegerRing.{linear, mul_comm as mul_comm_ℤ}
 use Rattle.frac128.proofs.Terms.{ltb-zero}
 
 -- the answer for a lesser number
@@ -115,7 +116,23 @@ cross_greater (pos n) (negsuc m) b d hb e f = int_greater (pos n *ℤ pos d) (ne
 cross_greater (negsuc n) m b d hb e f = absurd (not_false e)
 cross_greater (pos n) (pos m) b d hb e f = absurd (not_false (sym f ∙ ltb-zero m))
 
+-- a strict inequality is multiplied by a number above 0
+scaled_lt : (n m : ℤ) (d : ℕ) → 0 < d → n <ℤ m → (n *ℤ pos d) <ℤ (m *ℤ pos d)
+scaled_lt n m d some h =
+    omega (linear, mul_lt (pos d) n m (omega linear) h, mul_comm_ℤ n (pos d), mul_comm_ℤ m (pos d))
+
+-- a common factor above 0 leaves the comparison as it is
+scaled : (n m : ℤ) (d : ℕ) → 0 < d → int_cmp n m ≡ int_cmp (n *ℤ pos d) (m *ℤ pos d)
+scaled n m d some =
+    by_ranked _ _ _ (int_cmp n m) (int_ranked n m _ refl) (λ e k. e ∙ sym (int_less _ _ (scaled_lt n m d some k))) (λ e k. e ∙ sym (int_same _ _ (ap (λ z. z *ℤ pos d) k))) (λ e k. e ∙ sym (int_greater _ _ (scaled_lt m n d some k)))
+
 module _ (p q : ℚ) where
+  -- over one denominator the numerators decide
+  pub by_nums : p.den ≡ q.den → int_cmp p.num q.num ≡ rational_cmp p q
+  unfolding rational_cmp
+  by_nums e =
+      scaled p.num q.num q.den (den_pos q) ∙ ap (λ d. int_cmp (p.num *ℤ pos q.den) (q.num *ℤ pos d)) (sym e)
+
   -- two numbers that are not negative
   pub both_positive : (m n b d : ℕ) → m ≡ nat_abs p.num → n ≡ nat_abs q.num → b ≡ p.den → d ≡ q.den → int_lt p.num (pos 0) ≡ false → int_lt q.num (pos 0) ≡ false → nat_cmp (m * d) (n * b) ≡ rational_cmp p q
   unfolding rational_cmp

@@ -117,11 +117,13 @@ ratio_terms n (negsuc d) ne =
     (int_div-neg n _ ∙ ap (λ k. with_sign (not (int_lt n (pos 0))) (nat_abs n / k)) (gcd-neg n (suc d)) ∙ ap (λ s. with_sign s (nat_abs n / gcd (nat_abs n) (suc d))) (sym (not-other (int_lt n (pos 0)))), ap (λ k. suc d / k) (gcd-neg n (suc d)))
 
 -- what `new` makes of numbers with signs
-pub ratio_is : (n d : ℤ) (size divisor common : ℕ) → d ≢ pos 0 → size ≡ nat_abs n → divisor ≡ nat_abs d → common ≡ gcd size divisor → ((ratio n d).num ≡ with_sign (differ (int_lt n (pos 0)) (int_lt d (pos 0))) (size / common)) × ((ratio n d).den ≡ divisor / common) × (nat_abs (ratio n d).num ≡ size / common)
-ratio_is n d size divisor common ne is_size is_divisor is_common =
+pub ratio_is : (n d : ℤ) {size divisor common s v : ℕ} → d ≢ pos 0 → size ≡ nat_abs n → divisor ≡ nat_abs d → common ≡ gcd size divisor → s ≡ size / common → v ≡ divisor / common →
+    ((ratio n d).num ≡ with_sign (differ (int_lt n (pos 0)) (int_lt d (pos 0))) s) × ((ratio n d).den ≡ v) × (nat_abs (ratio n d).num ≡ s)
+ratio_is n d {size} {divisor} {s = s} ne is_size is_divisor is_common is_s is_v =
     let Terms : ℕ → ℕ → ℕ → Type 0 = λ m e g. ((ratio n d).num ≡ with_sign (differ (int_lt n (pos 0)) (int_lt d (pos 0))) (m / g)) × ((ratio n d).den ≡ e / g) in
-    let t : Terms size divisor common = subst (Terms size divisor) (sym is_common) (subst₂ (λ m e. Terms m e (gcd m e)) (sym is_size) (sym is_divisor) (ratio_terms n d ne)) in
-    (t.0, t.1, ap nat_abs t.0 ∙ nat_abs-with_sign _ (size / common))
+    let t : Terms size divisor _ = subst (Terms size divisor) (sym is_common) (subst₂ (λ m e. Terms m e (gcd m e)) (sym is_size) (sym is_divisor) (ratio_terms n d ne)) in
+    let num_is = t.0 ∙ ap (with_sign (differ (int_lt n (pos 0)) (int_lt d (pos 0)))) (sym is_s) in
+    (num_is, t.1 ∙ sym is_v, ap nat_abs num_is ∙ nat_abs-with_sign _ s)
 
 -- ---- products
 
@@ -232,6 +234,14 @@ product_is p q {m} {n} {b} {d} {g} {h} is_m is_n is_b is_d is_g is_h =
     let num_is : (p *ℚ q).num ≡ with_sign negative (m / g * (n / h)) = t.0 ∙ ap (with_sign negative) (sym size_is) in
     (num_is, t.1 ∙ sym (ap₂ ◌*◌ (ap₂ ◌/◌ is_b h_is) (ap₂ ◌/◌ is_d g_is)), ap nat_abs num_is ∙ nat_abs-with_sign negative _)
 
+-- the same, the quotients being known by their values
+pub product_of : (p q : ℚ) {m n b d g h s t u v : ℕ} → m ≡ nat_abs p.num → n ≡ nat_abs q.num → b ≡ p.den → d ≡ q.den → g ≡ gcd m d → h ≡ gcd n b → s ≡ m / g → t ≡ n / h → u ≡ b / h → v ≡ d / g →
+    ((p *ℚ q).num ≡ with_sign (differ (int_lt p.num (pos 0)) (int_lt q.num (pos 0))) (s * t)) × ((p *ℚ q).den ≡ u * v) × (nat_abs (p *ℚ q).num ≡ s * t)
+product_of p q is_m is_n is_b is_d is_g is_h is_s is_t is_u is_v =
+    let r = product_is p q is_m is_n is_b is_d is_g is_h in
+    let size_is = sym (ap₂ ◌*◌ is_s is_t) in
+    (r.0 ∙ ap (with_sign (differ (int_lt p.num (pos 0)) (int_lt q.num (pos 0)))) size_is, r.1 ∙ sym (ap₂ ◌*◌ is_u is_v), r.2 ∙ size_is)
+
 -- ---- an answer that is an error, where nothing fits
 
 -- an error is right where the fact does not hold
@@ -246,6 +256,13 @@ pub parts_are : (p q : ℚ) {a c : ℤ} {b d common : ℕ} → a ≡ p.num → c
 parts_are p q {common = common} is_a is_c is_b is_d is_common =
     let g_is : common ≡ gcd p.den q.den = is_common ∙ ap₂ gcd is_b is_d in
     (ap₂ (λ n k. n *ℤ pos k) is_a (ap₂ ◌/◌ is_d g_is), ap₂ (λ n k. n *ℤ pos k) is_c (ap₂ ◌/◌ is_b g_is), ap₂ ◌*◌ (ap₂ ◌/◌ is_b g_is) is_d)
+
+-- the same, the quotients being known by their values
+pub parts_of : (p q : ℚ) {a c : ℤ} {b d common l r : ℕ} → a ≡ p.num → c ≡ q.num → b ≡ p.den → d ≡ q.den → common ≡ gcd b d → l ≡ b / common → r ≡ d / common →
+    (a *ℤ pos r ≡ p.num *ℤ pos (q.den / gcd p.den q.den)) × (c *ℤ pos l ≡ q.num *ℤ pos (p.den / gcd p.den q.den)) × (l * d ≡ p.den / gcd p.den q.den * q.den)
+parts_of p q {a} {c} {d = d} is_a is_c is_b is_d is_common is_l is_r =
+    let parts = parts_are p q is_a is_c is_b is_d is_common in
+    (ap (λ k. a *ℤ pos k) is_r ∙ parts.0, ap (λ k. c *ℤ pos k) is_l ∙ parts.1, ap (λ k. k * d) is_l ∙ parts.2)
 
 -- the value of a sum stays over the least common denominator
 sum_cross : (a c e l r : ℤ) → (a *ℤ r +ℤ c *ℤ l) *ℤ ((e *ℤ l) *ℤ (e *ℤ r)) ≡ (a *ℤ (e *ℤ r) +ℤ c *ℤ (e *ℤ l)) *ℤ (l *ℤ (e *ℤ r))

@@ -56,8 +56,8 @@ fn gcd_of_long_odd(a: u128, b: u128) -> u128
 fn gcd_by_division(a: u128, b: u128) -> u128
     ensures { result ≡ gcd_of a b }
 {
-    let mut high = a;
-    let mut low = b;
+    let mut high = a.max(b);
+    let mut low = a.min(b);
     while low >= WORD {
         let rest = high % low;
         high = low;

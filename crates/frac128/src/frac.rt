@@ -5,7 +5,9 @@ ghost use Rattle.exact_math.specs.Rational.{whole, frac, ratio, ◌+ℚ◌, ◌-
 ghost use Rattle.frac128.specs.Range.{InRange, SumInRange, ProductInRange, IsReduced, IsNarrow, IsWord};
 
 use crate::euclid::{gcd_of_sizes, gcd_of_words};
-use crate::narrow::{LIMIT, WORD_LIMIT, Wide, multiple, product, signed, sum, word_multiple};
+use crate::narrow::{
+    LIMIT, WORD_LIMIT, Wide, multiple, product, quotient, signed, sum, word_multiple,
+};
 use std::marker::Model;
 
 /// A fraction in lowest terms, both of whose numbers are at most 2^127 - 1 in size. Contracts see it as a rational number.
@@ -44,8 +46,8 @@ impl Frac {
         let size = num.unsigned_abs();
         let divisor = den.unsigned_abs();
         let common = gcd_of_sizes(size, divisor);
-        let size = size / common;
-        let divisor = divisor / common;
+        let size = quotient(size, common);
+        let divisor = quotient(divisor, common);
         if size >= LIMIT || divisor >= LIMIT {
             return Err(Wide);
         }
@@ -131,7 +133,7 @@ impl Frac {
         if again == 1 {
             return Frac::of_terms(num, den);
         }
-        Frac::of_terms(signed(num < 0, size / again), den / again)
+        Frac::of_terms(signed(num < 0, quotient(size, again)), quotient(den, again))
     }
 
     /// The sum; `Wide` where a product or sum on the way to it is too large, as `SumInRange` says.
@@ -180,8 +182,8 @@ impl Frac {
         let left_den = self.divisor();
         let right_den = other.divisor();
         let common = gcd_of_sizes(left_den, right_den);
-        let left = left_den / common;
-        let right = right_den / common;
+        let left = quotient(left_den, common);
+        let right = quotient(right_den, common);
         let first = multiple(self.num(), right)?;
         let second = multiple(other.num(), left)?;
         let num = sum(first, second)?;
@@ -248,8 +250,8 @@ impl Frac {
         let right_den = other.divisor();
         let left = gcd_of_sizes(left_size, right_den);
         let right = gcd_of_sizes(right_size, left_den);
-        let size = product(left_size / left, right_size / right)?;
-        let den = product(left_den / right, right_den / left)?;
+        let size = product(quotient(left_size, left), quotient(right_size, right))?;
+        let den = product(quotient(left_den, right), quotient(right_den, left))?;
         let negative = self.is_negative() != other.is_negative();
         Ok(Frac::of_terms(signed(negative, size), den))
     }

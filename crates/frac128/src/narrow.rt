@@ -1,9 +1,9 @@
 //! Whole numbers of at most 2^127 - 1 in size.
-ghost use Rattle.std.specs.Prelude.{◌≡◌, ◌^◌, ◌<◌, ◌*◌, pos, nat_abs, ◌+ℤ◌, ◌*ℤ◌, OkIff};
+ghost use Rattle.std.specs.Prelude.{◌≡◌, ◌^◌, ◌<◌, ◌*◌, ◌/◌, pos, nat_abs, ◌+ℤ◌, ◌*ℤ◌, OkIff};
 ghost use Rattle.frac128.specs.Range.{IsNarrow};
 ghost use Rattle.frac128.specs.Sign.{with_sign};
 
-/// The exact result leaves the range of `Frac`.
+/// The result leaves the range of `Frac`, or for `add` and `sub` one of the four numbers on the way to it does.
 #[derive(Clone, Copy, Debug, PartialEq, Eq)]
 pub struct Wide;
 
@@ -12,6 +12,9 @@ pub(crate) const LIMIT: u128 = 1 << 127;
 
 // One more than the greatest number of 63 bits.
 pub(crate) const WORD_LIMIT: u128 = 1 << 63;
+
+// The greatest number of 64 bits.
+const WORD_MOST: u128 = 18446744073709551615;
 
 pub(crate) fn signed(negative: bool, size: u128) -> i128
     requires { size < 2 ^ 127 }
@@ -28,6 +31,20 @@ pub(crate) fn product(x: u128, y: u128) -> Result<u128, Wide>
         Some(z) if z < LIMIT => Ok(z),
         _ => Err(Wide),
     }
+}
+
+// A quotient; most greatest common divisors are 1, and a division of 64-bit numbers costs far less than one of 128-bit ones.
+pub(crate) fn quotient(x: u128, by: u128) -> u128
+    requires { 0 < by }
+    ensures { result ≡ x / by }
+{
+    if by == 1 {
+        return x;
+    }
+    if x <= WORD_MOST && by <= WORD_MOST {
+        return u128::from(x as u64 / by as u64);
+    }
+    x / by
 }
 
 // A number times a factor without a sign.

@@ -47,6 +47,9 @@ impl Ord for Frac {
         if self.is_word() && other.is_word() {
             return compare_words(self, other);
         }
+        if self.divisor() == other.divisor() {
+            return self.num().cmp(&other.num());
+        }
         match (self.is_negative(), other.is_negative()) {
             (false, false) => {
                 compare_quotients(self.size(), self.divisor(), other.size(), other.divisor())

@@ -49,6 +49,12 @@ fn adds_and_subtracts(rt: HostRuntime) {
     let half = of(&rt, 1, 2);
     assert_eq!(rt; terms(half_most.add(&half)), Err(Wide));
 
+    // The cross product 2^126 * 4 is too large, though the result (2^128 - (2^128 - 1)) / 12 is not.
+    let third_of_power = of(&rt, 1 << 126, 3);
+    let quarter_below = of(&rt, -0x55555555555555555555555555555555, 4);
+    assert_eq!(rt; terms(third_of_power.add(&quarter_below)), Err(Wide));
+    assert_eq!(rt; terms(quarter_below.add(&third_of_power)), Err(Wide));
+
     // A common denominator of nearly 2^126, and one of nearly 2^254.
     let left = of(&rt, 1, 3 << 124);
     let right = of(&rt, 2, 3 << 123);
@@ -94,6 +100,13 @@ fn compares(rt: HostRuntime) {
     assert_eq!(rt; low.neg().cmp(&high.neg()), Ordering::Greater);
     assert_eq!(rt; low.neg().cmp(&high), Ordering::Less);
     assert_eq!(rt; high.cmp(&high), Ordering::Equal);
+
+    // Over one denominator the numerators decide.
+    let few = of(&rt, 1, MAX);
+    let more = of(&rt, 2, MAX);
+    assert_eq!(rt; few.cmp(&more), Ordering::Less);
+    assert_eq!(rt; few.neg().cmp(&more.neg()), Ordering::Greater);
+    assert_eq!(rt; few.neg().cmp(&few), Ordering::Less);
     assert!(rt; of(&rt, 1, 3) < of(&rt, 1, 2));
     assert!(rt; of(&rt, 2, 4) == of(&rt, 1, 2));
     assert!(rt; of(&rt, 1, 2) != of(&rt, -1, 2));
@@ -107,6 +120,8 @@ fn finds_common_divisors(rt: HostRuntime) {
         (12, -18, 6),
         (MAX, MAX, MAX),
         (3 << 100, 9 << 90, 3 << 90),
+        (15, 25 << 100, 5),
+        (25 << 100, 15, 5),
         (MAX, MAX - 1, 1),
     ] {
         assert!(rt; a != i128::MIN && b != i128::MIN);

@@ -1,8 +1,12 @@
-use Rattle.std.proofs.Common.{◌≡◌, sym, ap, ◌∙◌}
+use Rattle.std.proofs.Common.{◌≡◌, sym, ap, ap₂, ◌∙◌}
 use Rattle.exact_math.specs.Gcd.{gcd}
 use Rattle.exact_math.specs.GcdLaws.{gcd-mod, gcd-zero, gcd-one, gcd_comm}
+use Rattle.frac128.proofs.BinaryGcd.{ordered}
 use Rattle.frac128.proofs.euclid.gcd_by_division.Goals as goal
 use Rattle.frac128.proofs.euclid.gcd_by_division.Goals.{then-high-ge-WORD, else-high-ge-WORD}
+
+pub loop-low-init : goal.loop-low-init
+loop-low-init c = ap₂ gcd c.max-high.ensures c.min-low.ensures ∙ ordered c.args.a c.args.b
 
 pub loop-low-preserved : goal.loop-low-preserved
 loop-low-preserved c = sym (gcd-mod c.loop-low.high c.loop-low.low) ∙ c.loop-low.invariant

@@ -1,4 +1,4 @@
-use Rattle.std.proofs.Common.{◌<◌, ◌/◌, ◌∙◌, sym, subst, arith, FitsSigned}
+use Rattle.std.proofs.Common.{◌<◌, ◌∙◌, sym, subst, arith, FitsSigned}
 use Rattle.std.specs.Int.{w128}
 use Rattle.std.proofs.lemmas.Int.{to_z-of_z}
 use Rattle.exact_math.specs.Rational.{ratio}
@@ -12,28 +12,28 @@ common_pos c =
     let fits : FitsSigned w128 c.args.den = c.ranges.den in
     gcd_some _ _ _ c.gcd_of_sizes-common.ensures (subst (λ k. 0 < k) (sym (simp to_z-of_z at c.unsigned_abs-divisor.ensures.value)) (abs_pos c.args.den c.requires))
 
-pub nonzero_div-size : goal.nonzero_div-size
-nonzero_div-size c = common_pos c
+pub quotient-size-requires : goal.quotient-size-requires
+quotient-size-requires c = common_pos c
 
-pub nonzero_div-divisor : goal.nonzero_div-divisor
-nonzero_div-divisor c = common_pos c
+pub quotient-divisor-requires : goal.quotient-divisor-requires
+quotient-divisor-requires c = common_pos c.before
 
 pub returns-then-size-ge-LIMIT : goal.returns-then-size-ge-LIMIT
 returns-then-size-ge-LIMIT c = λ h.
     let fits : FitsSigned w128 c.args.den = c.ranges.den in
     let fits' : FitsSigned w128 c.args.num = c.ranges.num in
-    let t = ratio_is c.args.num c.args.den _ _ _ c.requires (simp to_z-of_z at c.unsigned_abs-size.ensures.value) (simp to_z-of_z at c.unsigned_abs-divisor.ensures.value) c.gcd_of_sizes-common.ensures in
+    let t = ratio_is c.args.num c.args.den c.requires (simp to_z-of_z at c.unsigned_abs-size.ensures.value) (simp to_z-of_z at c.unsigned_abs-divisor.ensures.value) c.gcd_of_sizes-common.ensures c.quotient-size.ensures c.quotient-divisor.ensures in
     let num = h.num in
     let den = h.den in
     elim c.then-size-ge-LIMIT.branch [ then-size-ge-LIMIT-via-then-size-ge-LIMIT w ↦ omega arith | then-size-ge-LIMIT-via-else-size-ge-LIMIT+then-divisor-ge-LIMIT w ↦ omega arith ]
 
 -- what `of_terms` is called with
-made : (c : goal.After-signed) → Makes (ratio c.args.num c.args.den) c.signed.result (c.unsigned_abs-divisor.result / c.gcd_of_sizes-common.result)
+made : (c : goal.After-signed) → Makes (ratio c.args.num c.args.den) c.signed.result c.quotient-divisor.result
 made c =
     let fits : FitsSigned w128 c.args.den = c.ranges.den in
     let fits' : FitsSigned w128 c.args.num = c.ranges.num in
     let q = ratio c.args.num c.args.den in
-    let t = ratio_is c.args.num c.args.den _ _ _ c.requires (simp to_z-of_z at c.unsigned_abs-size.ensures.value) (simp to_z-of_z at c.unsigned_abs-divisor.ensures.value) c.gcd_of_sizes-common.ensures in
+    let t = ratio_is c.args.num c.args.den c.requires (simp to_z-of_z at c.unsigned_abs-size.ensures.value) (simp to_z-of_z at c.unsigned_abs-divisor.ensures.value) c.gcd_of_sizes-common.ensures c.quotient-size.ensures c.quotient-divisor.ensures in
     let narrow : InRange q = record { num = omega (arith, t.2); den = omega (arith, t.1) } in
     made_of q (t.0 ∙ sym (simp to_z-of_z at c.signed.ensures)) t.1 narrow
 

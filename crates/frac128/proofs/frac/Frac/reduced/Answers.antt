@@ -1,8 +1,9 @@
-use Rattle.std.proofs.Common.{◌≡◌, ◌<◌, ◌/◌, ◌∙◌, sym, ap, FitsSigned}
+use Rattle.std.proofs.Common.{◌≡◌, ◌<◌, ◌∙◌, int_lt, pos, sym, ap, subst, FitsSigned}
 use Rattle.std.specs.Int.{w128}
 use Rattle.std.proofs.lemmas.Int.{to_z-of_z}
 use Rattle.exact_math.specs.Gcd.{gcd}
 use Rattle.exact_math.specs.Rational.{frac}
+use Rattle.frac128.specs.Sign.{with_sign}
 use Rattle.frac128.proofs.Terms.{Makes, gcd_some, reduced_is}
 use Rattle.frac128.proofs.frac.Frac.reduced.Goals as goal
 use Rattle.frac128.proofs.frac.Frac.reduced.Goals.{After-gcd_of_sizes-again}
@@ -34,17 +35,18 @@ returns-then-again-eq1 c =
     let fits : FitsSigned w128 c.args.num = c.ranges.num in
     simp to_z-of_z at c.of_terms.ensures.value
 
-pub nonzero_div-size : goal.nonzero_div-size
-nonzero_div-size c = again_pos c.before
+pub quotient-requires : goal.quotient-requires
+quotient-requires c = again_pos c.before
 
-pub nonzero_div-den : goal.nonzero_div-den
-nonzero_div-den c = again_pos c.before.before
+pub quotient-requires-2 : goal.quotient-requires-2
+quotient-requires-2 c = again_pos c.before.before.before
 
 -- what `of_terms` is called with
-made : (c : goal.After-signed) → Makes (frac c.args.num c.args.den) c.signed.result (c.args.den / c.gcd_of_sizes-again.result)
+made : (c : goal.After-quotient-2) → Makes (frac c.args.num c.args.den) c.signed.result c.quotient-2.result
 made c =
     let fits : FitsSigned w128 c.args.num = c.ranges.num in
-    reduced_is c.args.num c.signed.result c.args.den _ _ c.requires.positive c.requires.num_narrow c.requires.den_narrow (simp to_z-of_z at c.unsigned_abs-size.ensures.value) (again_is c.before.before) (simp to_z-of_z at c.signed.ensures)
+    let size_is = ap (with_sign (int_lt c.args.num (pos 0))) c.quotient.ensures in
+    subst (Makes (frac c.args.num c.args.den) c.signed.result) (sym c.quotient-2.ensures) (reduced_is c.args.num c.signed.result c.args.den _ _ c.requires.positive c.requires.num_narrow c.requires.den_narrow (simp to_z-of_z at c.unsigned_abs-size.ensures.value) (again_is c.before.before.before.before) (simp to_z-of_z at c.signed.ensures ∙ size_is))
 
 pub of_terms-requires-2 : goal.of_terms-requires-2
 of_terms-requires-2 c =
