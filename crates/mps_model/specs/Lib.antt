@@ -1,0 +1,10 @@
+pub mod Sections
+pub mod Places
+pub mod Tables
+pub mod Sides
+pub mod Bounds
+pub mod Stated
+pub mod SectionOrder
+pub mod LineFaults
+pub mod Meaning
+pub mod WorkedTexts
