@@ -14,7 +14,8 @@ use Rattle.mps_model.specs.Tables.{Tables, tables_of}
 use Rattle.mps_model.specs.Sides.{is_negative}
 use Rattle.mps_model.specs.Bounds.{lines_of_column, column_names, lower_entries, lower_of, upper_of, is_integer}
 use Rattle.mps_model.specs.Stated.{model_lines, means}
-use Rattle.mps_model.specs.LineFaults.{first_holding, line_fault}
+use Rattle.mps_model.specs.Rules.{first_holding}
+use Rattle.mps_model.specs.LineFaults.{line_fault}
 
 abbrev pub fault_on : ℕ → FaultKind → TextFault
 fault_on line kind = record { kind = kind; line = line }

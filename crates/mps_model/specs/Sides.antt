@@ -1,7 +1,7 @@
 -- The rows of a model and their sides, from ROWS, RHS and RANGES as in fixed and free MPS (IBM's MPSX and its successors).
 -- In this project's profile an E row with a range of 0 keeps both sides, and a number on the objective row in RHS counts
 -- with its sign changed.
-use Rattle.std.specs.Prelude.{ℕ, ◌*◌, ◌/◌, ◌^◌, ◌+ℤ◌, ◌*ℤ◌, nat_abs, Bool, not, ◌&&◌, ◌||◌, nat_lt, int_lt, if◌then◌else◌, List, filter, find, flat_map, ℤ, pos, Option, Some, None, Result, Ok, Err, option_map, unwrap_or, codes, bytes_eq}
+use Rattle.std.specs.Prelude.{ℕ, ◌*◌, ◌/◌, ◌^◌, ◌+ℤ◌, ◌*ℤ◌, nat_abs, Bool, ◌&&◌, ◌||◌, nat_lt, int_lt, if◌then◌else◌, List, filter, find, flat_map, ℤ, pos, Option, Some, None, Result, Ok, Err, option_map, unwrap_or, codes, bytes_eq}
 use Rattle.exact_math.specs.Gcd.{gcd}
 use Rattle.exact_math.specs.Rational.{ℚ, whole, ◌+ℚ◌, neg_ℚ}
 use Rattle.mps_fields.specs.declared.numbers.NumberFault.{NumberFault}
@@ -94,11 +94,11 @@ abbrev pub constant_of : Tables → Option (List ℕ) → ℚ
 constant_of tables None = zero_ℚ
 constant_of tables (Some name) = neg_ℚ (side_of tables name)
 
--- a sum leaves the range of exact fractions where one of the four numbers on the way to it does: see `SumInRange`
-abbrev pub is_wide_sum : ℚ → ℚ → Bool
-is_wide_sum p q =
+-- a sum stays in the range of exact fractions: each of the four numbers on the way to it does (`SumInRange`)
+abbrev pub sum_fits : ℚ → ℚ → Bool
+sum_fits p q =
     let e : ℕ = gcd p.den q.den in
     let first : ℤ = p.num *ℤ pos (q.den / e) in
     let second : ℤ = q.num *ℤ pos (p.den / e) in
-    not (nat_lt (nat_abs first) (2 ^ 127) && nat_lt (nat_abs second) (2 ^ 127)
-    && nat_lt (nat_abs (first +ℤ second)) (2 ^ 127) && nat_lt (p.den / e * q.den) (2 ^ 127))
+    nat_lt (nat_abs first) (2 ^ 127) && nat_lt (nat_abs second) (2 ^ 127)
+    && nat_lt (nat_abs (first +ℤ second)) (2 ^ 127) && nat_lt (p.den / e * q.den) (2 ^ 127)

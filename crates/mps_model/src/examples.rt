@@ -9,7 +9,12 @@ ghost use Rattle.mps_model.specs.declared.fault.FaultKind.TheVariants as faults;
 ghost use Rattle.mps_model.specs.Tables.{tables_of};
 ghost use Rattle.mps_model.specs.Bounds.{is_integer};
 ghost use Rattle.mps_model.specs.Stated.{means, model_lines};
-ghost use Rattle.mps_model.specs.LineFaults.{row_fault, column_fault};
+ghost use Rattle.mps_model.specs.RowFaults.{row_fault};
+ghost use Rattle.mps_model.specs.ColumnFaults.{column_fault};
+ghost use Rattle.std.specs.Bool.{Decides};
+ghost use Rattle.exact_math.specs.Rational.{ℚ};
+ghost use Rattle.frac128.specs.Range.{SumInRange};
+ghost use Rattle.mps_model.specs.Sides.{sum_fits};
 ghost use Rattle.mps_model.specs.Meaning.{fault_at, meaning, Means, FaultAt, HasOneMeaning};
 ghost use Rattle.mps_model.specs.WorkedTexts.{text_of, empty_model, two_coins, sample, ranged, priced, two_free_rows, marked, by_columns, row_between, column_between, tables_with, many_columns};
 
@@ -148,6 +153,31 @@ pub fn worked_bound_faults()
     ensures wide_number { fault_at Free None (text_of (codes "ROWS" ∷ codes " N c" ∷ codes " E r" ∷ codes "COLUMNS" ∷ codes " x r 1" ∷ codes "BOUNDS" ∷ codes " UP x 1e-39" ∷ [])) ≡ Some (record { kind = faults.WideNumber; line = 7 }) }
 {}
 
+/// Fields that are absent, or that a line does not have, in fixed form.
+pub fn worked_fixed_faults()
+    ensures first_field { fault_at Fixed None (text_of (codes "ROWS" ∷ codes " N  c" ∷ codes " E  r" ∷ codes "COLUMNS" ∷ codes " A  x         r         1" ∷ [])) ≡ Some (record { kind = faults.FieldCount; line = 5 }) }
+    ensures no_number { fault_at Fixed None (text_of (codes "ROWS" ∷ codes " N  c" ∷ codes " E  r" ∷ codes "COLUMNS" ∷ codes "    x         r" ∷ [])) ≡ Some (record { kind = faults.FieldCount; line = 5 }) }
+    ensures half_a_pair { fault_at Fixed None (text_of (codes "ROWS" ∷ codes " N  c" ∷ codes " E  r" ∷ codes "COLUMNS" ∷ codes "    x         r         1              c" ∷ [])) ≡ Some (record { kind = faults.FieldCount; line = 5 }) }
+    ensures not_read { fault_at Fixed None (text_of (codes "ROWS" ∷ codes " N  c" ∷ codes " E  r" ∷ codes "COLUMNS" ∷ codes "    x         r         1                                    12" ∷ [])) ≡ Some (record { kind = faults.NoEnd; line = 5 }) }
+    ensures no_set_name { fault_at Fixed None (text_of (codes "ROWS" ∷ codes " N  c" ∷ codes " E  r" ∷ codes "COLUMNS" ∷ codes "    x         r         1" ∷ codes "RHS" ∷ codes "              r         1" ∷ [])) ≡ Some (record { kind = faults.NoEnd; line = 7 }) }
+    ensures short_marker { fault_at Fixed None (text_of (codes "ROWS" ∷ codes " N  c" ∷ codes " E  r" ∷ codes "COLUMNS" ∷ codes "    M         'MARKER'" ∷ [])) ≡ Some (record { kind = faults.FieldCount; line = 5 }) }
+    ensures marker { fault_at Fixed None (text_of (codes "ROWS" ∷ codes " N  c" ∷ codes " E  r" ∷ codes "COLUMNS" ∷ codes "    M         'MARKER'                 'INTEND'" ∷ [])) ≡ Some (record { kind = faults.Marker; line = 5 }) }
+    ensures no_kind { fault_at Fixed None (text_of (codes "ROWS" ∷ codes " N  c" ∷ codes " E  r" ∷ codes "COLUMNS" ∷ codes "    x         r         1" ∷ codes "BOUNDS" ∷ codes "              x         1" ∷ [])) ≡ Some (record { kind = faults.BoundKind; line = 7 }) }
+    ensures no_value { fault_at Fixed None (text_of (codes "ROWS" ∷ codes " N  c" ∷ codes " E  r" ∷ codes "COLUMNS" ∷ codes "    x         r         1" ∷ codes "BOUNDS" ∷ codes " UP           x" ∷ [])) ≡ Some (record { kind = faults.FieldCount; line = 7 }) }
+    ensures value_not_read { fault_at Fixed None (text_of (codes "ROWS" ∷ codes " N  c" ∷ codes " E  r" ∷ codes "COLUMNS" ∷ codes "    x         r         1" ∷ codes "BOUNDS" ∷ codes " FR           x         1e" ∷ [])) ≡ Some (record { kind = faults.NoEnd; line = 7 }) }
+    ensures fifth_field { fault_at Fixed None (text_of (codes "ROWS" ∷ codes " N  c" ∷ codes " E  r" ∷ codes "COLUMNS" ∷ codes "    x         r         1" ∷ codes "BOUNDS" ∷ codes " FR           x                        1" ∷ [])) ≡ Some (record { kind = faults.FieldCount; line = 7 }) }
+{}
+
+/// Where more than one fault holds, the first line has it, and on one line the first kind.
+pub fn worked_order()
+    ensures line_before_column { fault_at Free None (text_of (codes "NAME P" ∷ codes "ROWS" ∷ codes " N c" ∷ codes "COLUMNS" ∷ codes " x c 1" ∷ codes "BOUNDS" ∷ codes " UP y 1" ∷ codes "ENDATA" ∷ [])) ≡ Some (record { kind = faults.UnknownColumn; line = 7 }) }
+    ensures length_before_byte { fault_at Free None (replicate 1025 200) ≡ Some (record { kind = faults.LongLine; line = 1 }) }
+    ensures duplicate_before_pairs { fault_at Free None (text_of (codes "ROWS" ∷ codes " N c" ∷ codes " E r" ∷ codes "COLUMNS" ∷ codes " x r 1" ∷ codes " y r 1" ∷ codes " x s z" ∷ [])) ≡ Some (record { kind = faults.Duplicate; line = 7 }) }
+    ensures first_pair { fault_at Free None (text_of (codes "ROWS" ∷ codes " N c" ∷ codes " E r" ∷ codes "COLUMNS" ∷ codes " x r z s 1" ∷ [])) ≡ Some (record { kind = faults.NotNumber; line = 5 }) }
+    ensures range_kind { fault_at Free None (text_of (codes "ROWS" ∷ codes " N c" ∷ codes " E r" ∷ codes "COLUMNS" ∷ codes " x r 1" ∷ codes "RANGES" ∷ codes " c z" ∷ [])) ≡ Some (record { kind = faults.RangeOnObjective; line = 7 }) }
+    ensures set_before_row { fault_at Free None (text_of (codes "ROWS" ∷ codes " N c" ∷ codes " E r" ∷ codes "COLUMNS" ∷ codes " x r 1" ∷ codes "RHS" ∷ codes " A r 1" ∷ codes " s z" ∷ [])) ≡ Some (record { kind = faults.SecondSet; line = 8 }) }
+{}
+
 /// Columns that are not integer or not bounded, with the number of the column's first line.
 pub fn worked_whole_faults()
     ensures continuous { fault_at Free (Some (pos 9)) marked ≡ Some (record { kind = faults.Continuous; line = 8 }) }
@@ -164,4 +194,9 @@ pub fn one_meaning()
     ensures ok { (layout : Layout) (given : Option ℤ) (text : List ℕ) (model : FractionModel) → (meaning layout given text ≡ Ok model) ↔ Means layout given text model }
     ensures err { (layout : Layout) (given : Option ℤ) (text : List ℕ) (fault : TextFault) → (meaning layout given text ≡ Err fault) ↔ FaultAt layout given text fault }
     ensures one { (layout : Layout) (given : Option ℤ) (text : List ℕ) → HasOneMeaning layout given text }
+{}
+
+/// The test of a row's side with a range is what the range of exact fractions says of a sum.
+pub fn side_test_is_the_range()
+    ensures { (p q : ℚ) → Decides (sum_fits p q) (SumInRange p q) }
 {}

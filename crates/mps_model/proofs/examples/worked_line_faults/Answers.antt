@@ -7,7 +7,8 @@ use Rattle.mps_fields.specs.Decimal.{digits_value}
 use Rattle.mps_fields.specs.Reading.{decimal_with, decimal_of, value_of}
 use Rattle.mps_model.specs.Bounds.{without_repeats}
 use Rattle.mps_model.specs.Stated.{stated, means}
-use Rattle.mps_model.specs.LineFaults.{pairs_fault, line_fault}
+use Rattle.mps_model.specs.PairFaults.{pairs_fault}
+use Rattle.mps_model.specs.LineFaults.{line_fault}
 use Rattle.mps_model.specs.Meaning.{first_line_fault, fault_at, meaning}
 use Rattle.mps_model.proofs.examples.worked_line_faults.Goals as goal
 
