@@ -1,8 +1,8 @@
 -- What a model text means: its first fault, or else the model that it states. The faults and their order are this
 -- project's profile of fixed and free MPS (IBM's MPSX and its successors).
-use Rattle.std.specs.Prelude.{◌≡◌, ◌⊎◌, ℕ, ◌+◌, Bool, not, ◌&&◌, if◌then◌else◌, List, [], ◌∷◌, ◌++◌, take, length, filter_map, slice_get, ℤ, Option, Some, None, is_none, Result, Ok, Err, option_map, true, false}
+use Rattle.std.specs.Prelude.{◌≡◌, ◌⊎◌, is_some, ℕ, ◌+◌, Bool, not, ◌&&◌, if◌then◌else◌, List, [], ◌∷◌, ◌++◌, take, length, filter_map, slice_get, ℤ, Option, Some, None, is_none, Result, Ok, Err, option_map, true, false}
 use Rattle.std.specs.Option.{option_map_or, option_or}
-use Rattle.std.specs.List.{list_any, position_or_len}
+use Rattle.std.specs.List.{list_any, list_all, position_or_len}
 use Rattle.int_model.specs.FractionModel.{FractionModel}
 use Rattle.mps_fields.specs.Lines.{Line}
 use Rattle.mps_model.specs.declared.layout.Layout.{Layout}
@@ -88,3 +88,11 @@ pub record HasOneMeaning (layout : Layout) (given : Option ℤ) (text : List ℕ
   pub not_both : (model : FractionModel) (fault : TextFault) → Means layout given text model → FaultAt layout given text fault → ⊥
   pub one_model : (model other : FractionModel) → Means layout given text model → Means layout given text other → model ≡ other
   pub one_fault : (fault other : TextFault) → FaultAt layout given text fault → FaultAt layout given text other → fault ≡ other
+
+-- a column is an integer between two bounds
+abbrev pub is_settled : Option ℤ → Tables → List ℕ → Bool
+is_settled given tables column = is_integer tables column && is_some (lower_of tables column) && is_some (upper_of given tables column)
+
+-- the columns that lines state are integers between two bounds
+abbrev pub are_settled : Option ℤ → Tables → Bool
+are_settled given tables = list_all (is_settled given tables) (column_names tables.columns)

@@ -1,9 +1,9 @@
 -- Small texts on which the definitions are worked, each the smallest that shows its rule.
-use Rattle.std.specs.Prelude.{ℕ, List, [], ◌∷◌, ◌++◌, map, flat_map, ℤ, pos, Option, option_map, codes}
+use Rattle.std.specs.Prelude.{Some, ℕ, List, [], ◌∷◌, ◌++◌, map, flat_map, ℤ, pos, Option, option_map, codes}
 use Rattle.std.specs.List.{range_with_len}
 use Rattle.mps_model.specs.Tables.{RowLine, ColumnLine, entries, Tables}
 use Rattle.exact_math.specs.Rational.{whole}
-use Rattle.int_model.specs.FractionModel.{FractionColumn, NamedRow}
+use Rattle.int_model.specs.FractionModel.{FractionItem, FractionColumn, NamedRow}
 
 -- a text of lines, each with a line feed behind it
 abbrev pub text_of : List (List ℕ) → List ℕ
@@ -43,6 +43,40 @@ by_columns name = returned_text_of (codes "ROWS" ∷ codes " E  R1" ∷ codes "C
     ∷ (codes "    " ++ name ++ codes "  R1        71") ∷ codes "RHS" ∷ codes "    S         R1        125" ∷ codes "BOUNDS"
     ∷ (codes " UP B         " ++ name ++ codes "  1") ∷ codes "ENDATA" ∷ [])
 
+-- a market split in fixed form: 71x1 + 94x2 + 86x3 = 125 and 37x1 + 41x2 + 83x3 = 80
+abbrev pub split_fixed : List ℕ
+split_fixed = returned_text_of (codes "NAME          SPLIT"
+    ∷ codes "ROWS"
+    ∷ codes " N  COST"
+    ∷ codes " E  R1"
+    ∷ codes " E  R2"
+    ∷ codes "COLUMNS"
+    ∷ codes "    MARK0     'MARKER'                 'INTORG'"
+    ∷ codes "    X1        R1        71             R2        37"
+    ∷ codes "    X2        R1        94             R2        41"
+    ∷ codes "    X3        R1        86             R2        83"
+    ∷ codes "    MARK1     'MARKER'                 'INTEND'"
+    ∷ codes "RHS"
+    ∷ codes "    RHS       R1        125            R2        80"
+    ∷ codes "BOUNDS"
+    ∷ codes " UP BND       X1        1"
+    ∷ codes " UP BND       X2        1"
+    ∷ codes " UP BND       X3        1"
+    ∷ codes "ENDATA"
+    ∷ [])
+
+-- the item of a column
+abbrev pub item : ℕ → ℕ → FractionItem
+item column factor = record { column = column; factor = whole (pos factor) }
+
+-- an equation of this name over these items
+abbrev pub equation : List ℕ → ℕ → List FractionItem → NamedRow
+equation name side items = record { name = name; lo = Some (whole (pos side)); hi = Some (whole (pos side)); items = items }
+
+-- a column from 0 to this bound
+abbrev pub column_to : ℕ → List ℕ → FractionColumn
+column_to hi name = record { name = name; lo = whole (pos 0); hi = whole (pos hi) }
+
 -- two N rows, of which the first is the objective
 abbrev pub two_free_rows : List ℕ
 two_free_rows = text_of (codes "ROWS" ∷ codes " N c" ∷ codes " N d" ∷ codes "COLUMNS" ∷ codes " x c 1 d 7" ∷ codes "RHS" ∷ codes " S c 3 d 4"
@@ -60,7 +94,7 @@ row_between lo hi = (record {
   name = codes "r";
   lo = option_map whole lo;
   hi = option_map whole hi;
-  items = (record { column = 0; factor = whole (pos 1) }) ∷ [];
+  items = item 0 1 ∷ [];
 }) ∷ []
 
 -- the one column of a model, with its bounds

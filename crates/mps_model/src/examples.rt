@@ -1,5 +1,5 @@
 //! Worked values of the definitions.
-ghost use Rattle.std.specs.Prelude.{◌≡◌, ◌↔◌, ℕ, ℤ, List, [], ◌∷◌, ◌++◌, codes, replicate, Option, Some, None, Ok, Err, pos, negsuc, true, false};
+ghost use Rattle.std.specs.Prelude.{◌≡◌, ◌↔◌, ℕ, ℤ, List, [], ◌∷◌, ◌++◌, codes, replicate, take, Option, Some, None, Ok, Err, pos, negsuc, true, false};
 ghost use Rattle.exact_math.specs.Rational.{frac, whole};
 ghost use Rattle.int_model.specs.FractionModel.{FractionModel};
 ghost use Rattle.mps_model.specs.declared.layout.Layout.{Layout};
@@ -15,21 +15,21 @@ ghost use Rattle.std.specs.Bool.{Decides};
 ghost use Rattle.exact_math.specs.Rational.{ℚ};
 ghost use Rattle.frac128.specs.Range.{SumInRange};
 ghost use Rattle.mps_model.specs.Sides.{sum_fits};
-ghost use Rattle.mps_model.specs.Meaning.{fault_at, meaning, Means, FaultAt, HasOneMeaning};
-ghost use Rattle.mps_model.specs.WorkedTexts.{text_of, empty_model, two_coins, sample, ranged, priced, two_free_rows, marked, by_columns, row_between, column_between, tables_with, many_columns};
+ghost use Rattle.mps_model.specs.Meaning.{fault_at, meaning, Means, FaultAt, HasOneMeaning, are_settled};
+ghost use Rattle.mps_model.specs.WorkedTexts.{text_of, empty_model, two_coins, sample, split_fixed, item, equation, column_to, ranged, priced, two_free_rows, marked, by_columns, row_between, column_between, tables_with, many_columns};
 
 /// A text without rows and columns, an equation over two columns, and the example of docs/FORMATS.md.
 pub fn worked_models()
     ensures empty { meaning Free None empty_model ≡ Ok (record { columns = []; rows = []; objective = []; constant = whole (pos 0) }) }
     ensures coins { meaning Free None two_coins ≡ Ok (record {
-      columns = (record { name = codes "x"; lo = whole (pos 0); hi = whole (pos 10) }) ∷ (record { name = codes "y"; lo = whole (pos 0); hi = whole (pos 10) }) ∷ [];
-      rows = (record { name = codes "r"; lo = Some (whole (pos 8)); hi = Some (whole (pos 8)); items = (record { column = 0; factor = whole (pos 3) }) ∷ (record { column = 1; factor = whole (pos 5) }) ∷ [] }) ∷ [];
+      columns = column_to 10 (codes "x") ∷ column_to 10 (codes "y") ∷ [];
+      rows = equation (codes "r") 8 (item 0 3 ∷ item 1 5 ∷ []) ∷ [];
       objective = [];
       constant = whole (pos 0);
     }) }
     ensures sample { meaning Free None sample ≡ Ok (record {
-      columns = (record { name = codes "x"; lo = whole (pos 0); hi = whole (pos 9) }) ∷ (record { name = codes "y"; lo = whole (pos 0); hi = whole (pos 1) }) ∷ [];
-      rows = (record { name = codes "r"; lo = Some (whole (pos 4)); hi = None; items = (record { column = 0; factor = whole (pos 2) }) ∷ (record { column = 1; factor = whole (pos 3) }) ∷ [] }) ∷ [];
+      columns = column_to 9 (codes "x") ∷ column_to 1 (codes "y") ∷ [];
+      rows = (record { name = codes "r"; lo = Some (whole (pos 4)); hi = None; items = item 0 2 ∷ item 1 3 ∷ [] }) ∷ [];
       objective = (record { column = 0; factor = frac (pos 1) 2 }) ∷ [];
       constant = whole (pos 0);
     }) }
@@ -60,7 +60,7 @@ pub fn worked_bounds()
 
 /// The objective is the first N row; a number on it in RHS is taken from the value.
 pub fn worked_objectives()
-    ensures later { meaning Free None two_free_rows ≡ Ok (record { columns = column_between (codes "x") (pos 0) (pos 1); rows = []; objective = (record { column = 0; factor = whole (pos 1) }) ∷ []; constant = whole (negsuc 2) }) }
+    ensures later { meaning Free None two_free_rows ≡ Ok (record { columns = column_between (codes "x") (pos 0) (pos 1); rows = []; objective = item 0 1 ∷ []; constant = whole (negsuc 2) }) }
     ensures half { meaning Free None (priced (codes " x c 0.5") (codes "RHS" ∷ codes " c 3" ∷ codes "BOUNDS" ∷ codes " LI x 3" ∷ codes " UI x 9" ∷ [])) ≡ Ok (record { columns = column_between (codes "x") (pos 3) (pos 9); rows = []; objective = (record { column = 0; factor = frac (pos 1) 2 }) ∷ []; constant = whole (negsuc 2) }) }
     ensures zero { (means Free (Some (pos 9)) (priced (codes " x c 0e999") [])).objective ≡ [] }
 {}
@@ -75,10 +75,22 @@ pub fn worked_integers()
 
 /// A text with CR LF line ends, whose fields stand in their columns, in both layouts; in fixed form a name may hold a blank.
 pub fn worked_layouts()
-    ensures fixed { meaning Fixed None (by_columns (codes "X1      ")) ≡ Ok (record { columns = column_between (codes "X1") (pos 0) (pos 1); rows = (record { name = codes "R1"; lo = Some (whole (pos 125)); hi = Some (whole (pos 125)); items = (record { column = 0; factor = whole (pos 71) }) ∷ [] }) ∷ []; objective = []; constant = whole (pos 0) }) }
-    ensures free { meaning Free None (by_columns (codes "X1      ")) ≡ Ok (record { columns = column_between (codes "X1") (pos 0) (pos 1); rows = (record { name = codes "R1"; lo = Some (whole (pos 125)); hi = Some (whole (pos 125)); items = (record { column = 0; factor = whole (pos 71) }) ∷ [] }) ∷ []; objective = []; constant = whole (pos 0) }) }
-    ensures blank_in_name { meaning Fixed None (by_columns (codes "X 1     ")) ≡ Ok (record { columns = column_between (codes "X 1") (pos 0) (pos 1); rows = (record { name = codes "R1"; lo = Some (whole (pos 125)); hi = Some (whole (pos 125)); items = (record { column = 0; factor = whole (pos 71) }) ∷ [] }) ∷ []; objective = []; constant = whole (pos 0) }) }
+    ensures fixed { meaning Fixed None (by_columns (codes "X1      ")) ≡ Ok (record { columns = column_between (codes "X1") (pos 0) (pos 1); rows = equation (codes "R1") 125 (item 0 71 ∷ []) ∷ []; objective = []; constant = whole (pos 0) }) }
+    ensures free { meaning Free None (by_columns (codes "X1      ")) ≡ Ok (record { columns = column_between (codes "X1") (pos 0) (pos 1); rows = equation (codes "R1") 125 (item 0 71 ∷ []) ∷ []; objective = []; constant = whole (pos 0) }) }
+    ensures blank_in_name { meaning Fixed None (by_columns (codes "X 1     ")) ≡ Ok (record { columns = column_between (codes "X 1") (pos 0) (pos 1); rows = equation (codes "R1") 125 (item 0 71 ∷ []) ∷ []; objective = []; constant = whole (pos 0) }) }
     ensures blank_between_names { fault_at Free None (by_columns (codes "X 1     ")) ≡ Some (record { kind = faults.FieldCount; line = 5 }) }
+    ensures split_fixed { meaning Fixed None split_fixed ≡ Ok (record {
+      columns = column_to 1 (codes "X1") ∷ column_to 1 (codes "X2") ∷ column_to 1 (codes "X3") ∷ [];
+      rows = equation (codes "R1") 125 (item 0 71 ∷ item 1 94 ∷ item 2 86 ∷ []) ∷ equation (codes "R2") 80 (item 0 37 ∷ item 1 41 ∷ item 2 83 ∷ []) ∷ [];
+      objective = [];
+      constant = whole (pos 0);
+    }) }
+    ensures split_free { meaning Free None split_fixed ≡ Ok (record {
+      columns = column_to 1 (codes "X1") ∷ column_to 1 (codes "X2") ∷ column_to 1 (codes "X3") ∷ [];
+      rows = equation (codes "R1") 125 (item 0 71 ∷ item 1 94 ∷ item 2 86 ∷ []) ∷ equation (codes "R2") 80 (item 0 37 ∷ item 1 41 ∷ item 2 83 ∷ []) ∷ [];
+      objective = [];
+      constant = whole (pos 0);
+    }) }
 {}
 
 /// Lines that are too long, hold other bytes, or stand out of their columns; comments are judged by their length alone.
@@ -101,6 +113,8 @@ pub fn worked_section_faults()
     ensures data_before_rows { fault_at Free None (text_of (codes "NAME" ∷ codes " x" ∷ [])) ≡ Some (record { kind = faults.Section; line = 2 }) }
     ensures more_fields { fault_at Free None (text_of (codes "ROWS x" ∷ [])) ≡ Some (record { kind = faults.FieldCount; line = 1 }) }
     ensures nothing { fault_at Free None [] ≡ Some (record { kind = faults.NoEnd; line = 0 }) }
+    ensures cut_in_a_line { fault_at Free None (take 37 two_coins) ≡ Some (record { kind = faults.FieldCount; line = 6 }) }
+    ensures cut_before_the_end { fault_at Free None (take 81 two_coins) ≡ Some (record { kind = faults.NoEnd; line = 12 }) }
     ensures behind_the_end { fault_at Free None (empty_model ++ 200 ∷ []) ≡ None }
 {}
 
@@ -194,6 +208,11 @@ pub fn one_meaning()
     ensures ok { (layout : Layout) (given : Option ℤ) (text : List ℕ) (model : FractionModel) → (meaning layout given text ≡ Ok model) ↔ Means layout given text model }
     ensures err { (layout : Layout) (given : Option ℤ) (text : List ℕ) (fault : TextFault) → (meaning layout given text ≡ Err fault) ↔ FaultAt layout given text fault }
     ensures one { (layout : Layout) (given : Option ℤ) (text : List ℕ) → HasOneMeaning layout given text }
+{}
+
+/// In a text without fault each column is an integer between two bounds.
+pub fn faultless_columns()
+    ensures { (layout : Layout) (given : Option ℤ) (text : List ℕ) → fault_at layout given text ≡ None → are_settled given (tables_of layout (model_lines text)) ≡ true }
 {}
 
 /// The test of a row's side with a range is what the range of exact fractions says of a sum.

@@ -19,4 +19,6 @@ returns c = record {
   free = refl;
   blank_in_name = refl;
   blank_between_names = refl;
+  split_fixed = refl;
+  split_free = refl;
 }

@@ -22,5 +22,7 @@ returns c = record {
   data_before_rows = refl;
   more_fields = refl;
   nothing = refl;
+  cut_in_a_line = refl;
+  cut_before_the_end = refl;
   behind_the_end = refl;
 }
