@@ -1,0 +1,3 @@
+pub mod MeaningLaws
+pub mod RangeLaws
+pub mod ColumnLaws

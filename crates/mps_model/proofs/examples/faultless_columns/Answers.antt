@@ -1,0 +1,5 @@
+use Rattle.mps_model.proofs.ColumnLaws.{faultless_settled}
+use Rattle.mps_model.proofs.examples.faultless_columns.Goals as goal
+
+pub returns : goal.returns
+returns c = faultless_settled

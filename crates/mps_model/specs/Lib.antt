@@ -1,0 +1,14 @@
+pub mod Sections
+pub mod Places
+pub mod Tables
+pub mod Sides
+pub mod Bounds
+pub mod Stated
+pub mod SectionOrder
+pub mod Rules
+pub mod RowFaults
+pub mod PairFaults
+pub mod ColumnFaults
+pub mod LineFaults
+pub mod Meaning
+pub mod WorkedTexts
