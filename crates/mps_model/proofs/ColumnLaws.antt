@@ -1,18 +1,17 @@
 -- In a text without fault each column is an integer between two bounds.
 use Rattle.std.proofs.Common.{◌≡◌, ◌&&◌, ℤ, ℕ, List, [], ◌∷◌, Bool, true, false, not, cond, length, Option, Some, None, refl}
 use Rattle.std.specs.Prelude.{filter_map, slice_get, is_some, option_map}
-use Rattle.std.specs.Option.{option_or, option_map_or}
+use Rattle.std.specs.Option.{option_or}
 use Rattle.std.specs.List.{list_all, list_any, cons_option}
 use Rattle.mps_model.specs.declared.layout.Layout.{Layout}
 use Rattle.mps_model.specs.declared.fault.FaultKind.{FaultKind}
 use Rattle.mps_model.specs.declared.fault.FaultKind.TheVariants as faults
 use Rattle.mps_model.specs.Sections.{ENDATA, begins, text_lines}
 use Rattle.mps_model.specs.Tables.{Tables, tables_of}
-use Rattle.mps_model.specs.Sides.{is_negative}
-use Rattle.mps_model.specs.Bounds.{column_names, lower_of, lower_entries, upper_of, is_integer}
+use Rattle.mps_model.specs.Bounds.{column_names, lower_of, upper_of, is_integer}
 use Rattle.mps_model.specs.Stated.{model_lines}
 use Rattle.mps_model.specs.Rules.{first_holding}
-use Rattle.mps_model.specs.Meaning.{fault_on, first_line_fault, judged_lines, is_empty, column_kind, first_line_of, column_fault_at, first_column_fault, whole_fault, fault_at, is_settled, are_settled}
+use Rattle.mps_model.specs.Meaning.{fault_on, first_line_fault, judged_lines, column_kind, first_line_of, column_fault_at, first_column_fault, whole_fault, fault_at, is_settled, are_settled}
 
 -- ---- over plain variables
 
@@ -58,7 +57,7 @@ no_rule true true true d A B C D h = refl
 settled : (given : Option ℤ) (tables : Tables) (column : List ℕ) → column_fault_at given tables column ≡ None → is_settled given tables column ≡ true
 settled given tables column h =
     no_rule (is_integer tables column) (is_some (lower_of tables column)) (is_some (upper_of given tables column))
-    (option_map_or is_negative (upper_of given tables column) false && is_empty (lower_entries tables column))
+    _
     faults.Continuous faults.NoLower faults.NoUpper faults.NegativeUpper
     (unmapped (fault_on (first_line_of tables column)) (column_kind given tables column) h)
 

@@ -1,4 +1,5 @@
--- How a list of rules gives the kind of a fault: the first that holds. And when a field is no number, or one that is too wide.
+-- How a list of rules gives the kind of a fault, by this project's profile of fixed and free MPS (IBM's MPSX and its
+-- successors): the first rule that holds. And when a field is no number, or one that is too wide.
 use Rattle.std.specs.Prelude.{ℕ, Bool, true, false, List, find, Option, Result, Err, option_map, bytes_eq}
 use Rattle.std.specs.List.{list_any}
 use Rattle.exact_math.specs.Rational.{ℚ}
