@@ -1,4 +1,4 @@
--- The numbers of the MPS formats: how they are written, what they mean, and which fit a fraction of 128-bit numbers.
+-- The numbers of fixed and free MPS (IBM's MPSX and its successors), in this project's profile: how they are written, what they mean, and which fit a fraction of 128-bit numbers.
 use Rattle.std.specs.Prelude.{◌≡◌, ℕ, suc, ◌+◌, ◌-◌, ◌*◌, ◌^◌, Bool, true, false, IsTrue, ◌&&◌, ◌||◌, nat_lt, nat_le, ◌==◌, List, [], ◌∷◌, ◌++◌, length, ℤ, pos, negsuc, neg_ℤ, ◌*ℤ◌, ◌-ℤ◌, nat_abs, Option, Some, None}
 use Rattle.std.specs.List.{list_all}
 use Rattle.exact_math.specs.Rational.{ℚ, whole, frac}

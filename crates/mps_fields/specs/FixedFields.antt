@@ -1,4 +1,4 @@
--- The fields of a line in fixed form, by its columns, which count from 1.
+-- The fields of a line in fixed form, as in fixed MPS (IBM's MPSX): by its columns, which count from 1.
 use Rattle.std.specs.Prelude.{◌≡◌, ◌≤◌, ℕ, ◌+◌, ◌-◌, Bool, not, ◌&&◌, ◌==◌, if◌then◌else◌, List, [], ◌∷◌, length, take, drop, Option, Some, None}
 use Rattle.std.specs.List.{list_all, prefix_len, suffix_len}
 use Rattle.mps_fields.specs.FreeFields.{Span}

@@ -1,4 +1,5 @@
--- The fields of a line in free form: the longest runs of bytes other than blank and tab.
+-- The fields of a line in free form, as in free MPS (the successors of IBM's MPSX): the longest runs of bytes other than
+-- blank and tab.
 use Rattle.std.specs.Prelude.{◌≡◌, ℕ, ◌+◌, ◌-◌, ◌≤◌, Bool, true, not, IsTrue, ◌&&◌, nat_lt, if◌then◌else◌, List, [], ◌∷◌, ◌++◌, take, drop, length}
 use Rattle.std.specs.List.{list_all}
 use Rattle.mps_fields.specs.Lines.{Line, is_blank}

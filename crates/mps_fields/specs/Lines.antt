@@ -1,4 +1,4 @@
--- The lines of a model text.
+-- The lines of a model text, as in fixed and free MPS (IBM's MPSX and its successors), in this project's profile.
 use Rattle.std.specs.Prelude.{ℕ, ◌+◌, ◌-◌, Bool, false, not, ◌&&◌, ◌||◌, ◌==◌, if◌then◌else◌, List, [], ◌∷◌, map, length, take, slice_index}
 use Rattle.std.specs.List.{list_all}
 

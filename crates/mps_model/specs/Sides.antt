@@ -17,7 +17,7 @@ is_negative q = int_lt q.num (pos 0)
 abbrev pub absolute : ℚ → ℚ
 absolute q = if is_negative q then neg_ℚ q else q
 
--- a number, or 0 where the field is none: such a text has a fault
+-- a number, or 0 where the field is none: such a text has a fault, or the field is not read
 abbrev pub number_or_zero : Result ℚ NumberFault → ℚ
 number_or_zero (Ok q) = q
 number_or_zero (Err fault) = zero_ℚ

@@ -1,4 +1,5 @@
--- Small texts on which the definitions are worked, each the smallest that shows its rule.
+-- Small texts of fixed and free MPS (IBM's MPSX and its successors) on which the definitions are worked, each the
+-- smallest that shows its rule.
 use Rattle.std.specs.Prelude.{Some, ℕ, List, [], ◌∷◌, ◌++◌, map, flat_map, ℤ, pos, Option, option_map, codes}
 use Rattle.std.specs.List.{range_with_len}
 use Rattle.mps_model.specs.Tables.{RowLine, ColumnLine, entries, Tables}

@@ -56,6 +56,8 @@ pub fn worked_bounds()
     ensures each_side { (means Free None (priced (codes " x c 1") (codes "BOUNDS" ∷ codes " FX B x 2" ∷ codes " UP B x 5" ∷ []))).columns ≡ column_between (codes "x") (pos 2) (pos 5) }
     ensures unset_again { (means Free (Some (pos 9)) (priced (codes " x c 1") (codes "BOUNDS" ∷ codes " UP x 5" ∷ codes " PL x" ∷ []))).columns ≡ column_between (codes "x") (pos 0) (pos 9) }
     ensures binary { (means Free None (priced (codes " x c 1") (codes "BOUNDS" ∷ codes " FR B x 7" ∷ codes " BV B x" ∷ []))).columns ≡ column_between (codes "x") (pos 0) (pos 1) }
+    ensures fixed { (means Free None (priced (codes " x c 1") (codes "BOUNDS" ∷ codes " FX x 2" ∷ []))).columns ≡ column_between (codes "x") (pos 2) (pos 2) }
+    ensures upper_kept { (means Free None (priced (codes " x c 1") (codes "BOUNDS" ∷ codes " UP x 5" ∷ codes " MI x" ∷ codes " LO x 0" ∷ []))).columns ≡ column_between (codes "x") (pos 0) (pos 5) }
 {}
 
 /// The objective is the first N row; a number on it in RHS is taken from the value.
@@ -138,6 +140,8 @@ pub fn worked_column_faults()
     ensures same_row_in_one_line { fault_at Free None (text_of (codes "ROWS" ∷ codes " N c" ∷ codes " E r" ∷ codes "COLUMNS" ∷ codes " x r 1 r 2" ∷ [])) ≡ Some (record { kind = faults.Duplicate; line = 5 }) }
     ensures column_again { fault_at Free None (text_of (codes "ROWS" ∷ codes " N c" ∷ codes " E r" ∷ codes "COLUMNS" ∷ codes " x r 1" ∷ codes " y r 1" ∷ codes " x c 1" ∷ [])) ≡ Some (record { kind = faults.Duplicate; line = 7 }) }
     ensures column_across_marker { fault_at Free None (text_of (codes "ROWS" ∷ codes " N c" ∷ codes " E r" ∷ codes "COLUMNS" ∷ codes " x r 1" ∷ codes " M 'MARKER' 'INTORG'" ∷ codes " x c 1" ∷ [])) ≡ Some (record { kind = faults.Duplicate; line = 7 }) }
+    ensures column_across_comment { fault_at Free None (text_of (codes "ROWS" ∷ codes " N c" ∷ codes " E r" ∷ codes "COLUMNS" ∷ codes " x r 1" ∷ codes "* k" ∷ codes " x c 1" ∷ [])) ≡ Some (record { kind = faults.NoEnd; line = 7 }) }
+    ensures zero_is_an_entry { fault_at Free None (text_of (codes "ROWS" ∷ codes " N c" ∷ codes " E r" ∷ codes "COLUMNS" ∷ codes " x r 0" ∷ codes " x r 1" ∷ [])) ≡ Some (record { kind = faults.Duplicate; line = 6 }) }
     ensures other_word { fault_at Free None (text_of (codes "ROWS" ∷ codes " N c" ∷ codes " E r" ∷ codes "COLUMNS" ∷ codes " M 'MARKER' 'INTO'" ∷ [])) ≡ Some (record { kind = faults.Marker; line = 5 }) }
     ensures closes_nothing { fault_at Free None (text_of (codes "ROWS" ∷ codes " N c" ∷ codes " E r" ∷ codes "COLUMNS" ∷ codes " M 'MARKER' 'INTEND'" ∷ [])) ≡ Some (record { kind = faults.Marker; line = 5 }) }
     ensures opens_twice { fault_at Free None (text_of (codes "ROWS" ∷ codes " N c" ∷ codes " E r" ∷ codes "COLUMNS" ∷ codes " M 'MARKER' 'INTORG'" ∷ codes " M 'MARKER' 'INTORG'" ∷ [])) ≡ Some (record { kind = faults.Marker; line = 6 }) }
@@ -152,6 +156,9 @@ pub fn worked_side_faults()
     ensures same_set { fault_at Free None (text_of (codes "ROWS" ∷ codes " N c" ∷ codes " E r" ∷ codes "COLUMNS" ∷ codes " x r 1" ∷ codes "RHS" ∷ codes " A r 1" ∷ codes " A c 1" ∷ [])) ≡ Some (record { kind = faults.NoEnd; line = 8 }) }
     ensures twice { fault_at Free None (text_of (codes "ROWS" ∷ codes " N c" ∷ codes " E r" ∷ codes "COLUMNS" ∷ codes " x r 1" ∷ codes "RHS" ∷ codes " r 1" ∷ codes " r 1" ∷ [])) ≡ Some (record { kind = faults.Duplicate; line = 8 }) }
     ensures range_on_objective { fault_at Free None (text_of (codes "ROWS" ∷ codes " N c" ∷ codes " E r" ∷ codes "COLUMNS" ∷ codes " x r 1" ∷ codes "RANGES" ∷ codes " c 1" ∷ [])) ≡ Some (record { kind = faults.RangeOnObjective; line = 7 }) }
+    ensures range_twice { fault_at Free None (text_of (codes "ROWS" ∷ codes " N c" ∷ codes " E r" ∷ codes "COLUMNS" ∷ codes " x r 1" ∷ codes "RANGES" ∷ codes " r 1" ∷ codes " r 1" ∷ [])) ≡ Some (record { kind = faults.Duplicate; line = 8 }) }
+    ensures range_of_no_row { fault_at Free None (text_of (codes "ROWS" ∷ codes " N c" ∷ codes " E r" ∷ codes "COLUMNS" ∷ codes " x r 1" ∷ codes "RANGES" ∷ codes " s 1" ∷ [])) ≡ Some (record { kind = faults.UnknownRow; line = 7 }) }
+    ensures range_is_no_number { fault_at Free None (text_of (codes "ROWS" ∷ codes " N c" ∷ codes " E r" ∷ codes "COLUMNS" ∷ codes " x r 1" ∷ codes "RANGES" ∷ codes " r z" ∷ [])) ≡ Some (record { kind = faults.NotNumber; line = 7 }) }
     ensures wide_side { fault_at Free None (text_of (codes "ROWS" ∷ codes " N c" ∷ codes " E r" ∷ codes "COLUMNS" ∷ codes " x r 1" ∷ codes "RHS" ∷ codes " r 170141183460469231731687303715884105727" ∷ codes "RANGES" ∷ codes " r 1" ∷ [])) ≡ Some (record { kind = faults.WideNumber; line = 9 }) }
     ensures greatest_side { fault_at Free None (text_of (codes "ROWS" ∷ codes " N c" ∷ codes " E r" ∷ codes "COLUMNS" ∷ codes " x r 1" ∷ codes "RHS" ∷ codes " r 170141183460469231731687303715884105727" ∷ codes "RANGES" ∷ codes " r -1" ∷ [])) ≡ Some (record { kind = faults.NoEnd; line = 9 }) }
 {}
@@ -196,9 +203,12 @@ pub fn worked_order()
 pub fn worked_whole_faults()
     ensures continuous { fault_at Free (Some (pos 9)) marked ≡ Some (record { kind = faults.Continuous; line = 8 }) }
     ensures no_markers { fault_at Free None (text_of (codes "NAME P" ∷ codes "ROWS" ∷ codes " N c" ∷ codes "COLUMNS" ∷ codes " x c 1" ∷ codes "ENDATA" ∷ [])) ≡ Some (record { kind = faults.Continuous; line = 5 }) }
+    ensures upper_is_not_integer { fault_at Free None (text_of (codes "NAME P" ∷ codes "ROWS" ∷ codes " N c" ∷ codes "COLUMNS" ∷ codes " x c 1" ∷ codes "BOUNDS" ∷ codes " UP x 1" ∷ codes "ENDATA" ∷ [])) ≡ Some (record { kind = faults.Continuous; line = 5 }) }
     ensures no_upper { fault_at Free None (priced (codes " x c 1") []) ≡ Some (record { kind = faults.NoUpper; line = 6 }) }
     ensures upper_given { fault_at Free (Some (pos 9)) (priced (codes " x c 1") []) ≡ None }
     ensures no_lower { fault_at Free None (priced (codes " x c 1") (codes "BOUNDS" ∷ codes " MI x" ∷ codes " UP x -1" ∷ [])) ≡ Some (record { kind = faults.NoLower; line = 6 }) }
+    ensures free_column { fault_at Free None (priced (codes " x c 1") (codes "BOUNDS" ∷ codes " FR x" ∷ codes " UP x 5" ∷ [])) ≡ Some (record { kind = faults.NoLower; line = 6 }) }
+    ensures free_above { fault_at Free None (priced (codes " x c 1") (codes "BOUNDS" ∷ codes " UP x 5" ∷ codes " FR x" ∷ codes " LO x 0" ∷ [])) ≡ Some (record { kind = faults.NoUpper; line = 6 }) }
     ensures negative_upper { fault_at Free None (priced (codes " x c 1") (codes "BOUNDS" ∷ codes " UP x -1" ∷ [])) ≡ Some (record { kind = faults.NegativeUpper; line = 6 }) }
     ensures lower_set { fault_at Free None (priced (codes " x c 1") (codes "BOUNDS" ∷ codes " LO x -4" ∷ codes " UP x -1" ∷ [])) ≡ None }
 {}

@@ -21,7 +21,7 @@ pub enum FaultKind {
     UnknownColumn,
     /// A field that is not written as a number.
     NotNumber,
-    /// A number, or the side of a row with a range, that leaves the range of exact fractions.
+    /// A number that does not fit as it is written, or the side of a row with a range that leaves the range of exact fractions.
     WideNumber,
     /// A marker line with another word, or one that opens twice or closes what is not open.
     Marker,

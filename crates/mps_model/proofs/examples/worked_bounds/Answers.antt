@@ -21,4 +21,6 @@ returns c = record {
   each_side = refl;
   unset_again = refl;
   binary = refl;
+  fixed = refl;
+  upper_kept = refl;
 }

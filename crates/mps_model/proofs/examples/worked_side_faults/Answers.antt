@@ -20,6 +20,9 @@ returns c = record {
   same_set = refl;
   twice = refl;
   range_on_objective = refl;
+  range_twice = refl;
+  range_of_no_row = refl;
+  range_is_no_number = refl;
   wide_side = refl;
   greatest_side = refl;
 }

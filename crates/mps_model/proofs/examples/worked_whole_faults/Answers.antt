@@ -17,9 +17,12 @@ unfolding gcd gcd_within frac whole ◌+ℚ◌ neg_ℚ pieces_of numbered fields
 returns c = record {
   continuous = refl;
   no_markers = refl;
+  upper_is_not_integer = refl;
   no_upper = refl;
   upper_given = refl;
   no_lower = refl;
+  free_column = refl;
+  free_above = refl;
   negative_upper = refl;
   lower_set = refl;
 }
