@@ -1,9 +1,10 @@
 -- Rows that stand one after another in one list: how many there are, and which stands where.
-use Rattle.std.proofs.Common.{◌≡◌, ℕ, zero, suc, ◌+◌, ◌*◌, ◌<◌, List, [], ◌∷◌, length, take, drop, get_or, ℤ, refl, ap, sym, ◌∙◌, arith}
-use Rattle.std.proofs.lemmas.List.{drop-drop}
+use Rattle.std.proofs.Common.{◌≡◌, ℕ, zero, suc, ◌+◌, ◌*◌, ◌<◌, List, [], ◌∷◌, length, map, take, drop, get_or, ℤ, None, refl, ap, sym, subst, ◌∙◌, arith}
+use Rattle.std.proofs.lemmas.List.{drop-drop, get_or-map}
 use Rattle.int_model.specs.declared.bounds.Bounds.{Bounds}
-use Rattle.int_model.specs.declared.int_rows.Sides.{Sides}
-use Rattle.int_model.specs.WholeRows.{WholeRow, WholeRows, row_at}
+use Rattle.int_model.specs.declared.flat_row.Sides.{Sides}
+use Rattle.int_model.specs.declared.objective.ValueTerms.{ValueTerms}
+use Rattle.int_model.specs.WholeRows.{WholeRow, WholeRows, row_at, weight}
 use Rattle.int_model.specs.FlatRows.{rows_of, whole_rows}
 
 pub length-rows_of : (n : ℕ) (factors : List ℤ) (sides : List Sides) → length (rows_of n factors sides) ≡ length sides
@@ -19,9 +20,17 @@ get_or-rows_of n factors (side ∷ sides) (suc i) d e h =
     get_or-rows_of n (drop n factors) sides i d e (omega arith) ∙ rw (drop-drop (i * n) n factors, step) refl
 
 -- a view of flat rows, by its number of rows
-pub rows-whole_rows : (box : List Bounds) (factors : List ℤ) (sides : List Sides) (rows : WholeRows) → whole_rows box factors sides ≡ rows → length sides ≡ length rows.rows
-rows-whole_rows box factors sides rows is = sym (length-rows_of (length box) factors sides) ∙ ap (λ (w : WholeRows). length w.rows) is
+pub rows-whole_rows : (box : List Bounds) (factors : List ℤ) (sides : List Sides) (cost : List ℤ) (terms : ValueTerms) (rows : WholeRows) → whole_rows box factors sides cost terms ≡ rows → length sides ≡ length rows.rows
+rows-whole_rows box factors sides cost terms rows is = sym (length-rows_of (length box) factors sides) ∙ ap (λ (w : WholeRows). length w.rows) is
 
 -- a view of flat rows, by the row at a place
-pub row-whole_rows : (box : List Bounds) (factors : List ℤ) (sides : List Sides) (rows : WholeRows) (i : ℕ) (e : Sides) → whole_rows box factors sides ≡ rows → i < length sides → row_at rows i ≡ record { factors = take (length box) (drop (i * length box) factors); low = (get_or sides i e).low; high = (get_or sides i e).high }
-row-whole_rows box factors sides rows i e is h = rw (← is) (get_or-rows_of (length box) factors sides i _ e h)
+pub row-whole_rows : (box : List Bounds) (factors : List ℤ) (sides : List Sides) (cost : List ℤ) (terms : ValueTerms) (rows : WholeRows) (i : ℕ) (e : Sides) → whole_rows box factors sides cost terms ≡ rows → i < length sides → row_at rows i ≡ record { factors = take (length box) (drop (i * length box) factors); low = (get_or sides i e).low; high = (get_or sides i e).high }
+row-whole_rows box factors sides cost terms rows i e is h = rw (← is) (get_or-rows_of (length box) factors sides i _ e h)
+
+-- the weight at a place is that of the row there
+pub weight-whole_rows : (box : List Bounds) (factors : List ℤ) (sides : List Sides) (cost : List ℤ) (terms : ValueTerms) (rows : WholeRows) (i : ℕ) (e : Sides) → whole_rows box factors sides cost terms ≡ rows → map (λ (side : Sides). side.weight) sides ≡ map (weight box) (rows_of (length box) factors sides) → i < length sides → (get_or sides i e).weight ≡ weight rows.box (row_at rows i)
+weight-whole_rows box factors sides cost terms rows i e is weights h =
+    let d : WholeRow = record { factors = []; low = None; high = None } in
+    let own : get_or (map (λ (side : Sides). side.weight) sides) i 0 ≡ (get_or sides i e).weight = get_or-map (λ (side : Sides). side.weight) sides i e 0 h in
+    let other : get_or (map (weight box) (rows_of (length box) factors sides)) i 0 ≡ weight box (get_or (rows_of (length box) factors sides) i d) = get_or-map (weight box) (rows_of (length box) factors sides) i d 0 (omega (arith, length-rows_of (length box) factors sides)) in
+    subst (λ (w : WholeRows). (get_or sides i e).weight ≡ weight w.box (row_at w i)) is (sym own ∙ ap (λ l. get_or l i 0) weights ∙ other)

@@ -14,8 +14,10 @@ use Rattle.exact_math.proofs.LcmLaws.{dvd_lcm_left, dvd_lcm_right, lcm_dvd}
 use Rattle.int_model.specs.declared.bounds.Bounds.{Bounds}
 use Rattle.int_model.specs.WholeRows.{WholeRow, reach, span, size_of_side, weight}
 use Rattle.int_model.specs.Scale.{common_denominator, scale, scaled, FractionRow, integer_row}
-use Rattle.int_model.specs.FractionModel.{FractionItem, FractionColumn, FractionModel}
-use Rattle.int_model.specs.FractionRows.{coefficient_of, coefficients_of, rounded_bounds, integer_rows, objective_of}
+use Rattle.int_model.specs.declared.model.Item.{Item}
+use Rattle.int_model.specs.declared.model.Column.{Column}
+use Rattle.int_model.specs.declared.model.Model.{Model}
+use Rattle.int_model.specs.IntegerRows.{coefficient_of, coefficients_of, rounded_bounds, integer_rows, objective_of}
 use Rattle.int_model.proofs.ScaleLaws.{common_denominator_pos}
 use Rattle.int_model.specs.Large.{IsHeavy, HasWideDenominator, IsLargeColumn, IsLargeRow, multiple, objective_numbers, objective_weight, IsLargeObjective}
 
@@ -125,21 +127,21 @@ row_keeps_small box row long h =
     keeps_small box (integer_row row) (length-map row.factors (λ q. (scale row.factors *ℚ q).num) ∙ long) (row_light box row h)
 
 -- a column that is not large
-pub column_light : (column : FractionColumn) → (IsLargeColumn column → ⊥) → reach (rounded_bounds column) ≤ 2 ^ 96
+pub column_light : (column : Column) → (IsLargeColumn column → ⊥) → reach (rounded_bounds column) ≤ 2 ^ 96
 column_light column h = light (reach (rounded_bounds column)) h
 
 -- an objective that is not large
-pub objective_light : (model : FractionModel) → (IsLargeObjective model → ⊥) → objective_weight model ≤ 2 ^ 96
+pub objective_light : (model : Model) → (IsLargeObjective model → ⊥) → objective_weight model ≤ 2 ^ 96
 objective_light model h = light (objective_weight model) (λ heavy. h (inl heavy))
 
 -- the constant and the first k terms of an objective that is not large
-pub objective_sums : (model : FractionModel) (k : ℕ) → (IsLargeObjective model → ⊥) → nat_abs (multiple (common_denominator (objective_numbers model)) model.constant) + span (take k (map (multiple (common_denominator (objective_numbers model))) (objective_of model))) (integer_rows model).box ≤ 2 ^ 96
+pub objective_sums : (model : Model) (k : ℕ) → (IsLargeObjective model → ⊥) → nat_abs (multiple (common_denominator (objective_numbers model)) model.constant) + span (take k (map (multiple (common_denominator (objective_numbers model))) (objective_of model))) (integer_rows model).box ≤ 2 ^ 96
 objective_sums model k h =
     let m = common_denominator (objective_numbers model) in
     omega (arith, objective_light model h, span-take_le k (map (multiple m) (objective_of model)) (integer_rows model).box)
 
 -- a term of an objective that is not large
-pub objective_term : (model : FractionModel) (k : ℕ) (d : ℤ) (e : Bounds) → (IsLargeObjective model → ⊥) → k < length (objective_of model) → length (objective_of model) ≡ length (integer_rows model).box → nat_abs (get_or (map (multiple (common_denominator (objective_numbers model))) (objective_of model)) k d) * reach (get_or (integer_rows model).box k e) ≤ 2 ^ 96
+pub objective_term : (model : Model) (k : ℕ) (d : ℤ) (e : Bounds) → (IsLargeObjective model → ⊥) → k < length (objective_of model) → length (objective_of model) ≡ length (integer_rows model).box → nat_abs (get_or (map (multiple (common_denominator (objective_numbers model))) (objective_of model)) k d) * reach (get_or (integer_rows model).box k e) ≤ 2 ^ 96
 objective_term model k d e h l long =
     let m = common_denominator (objective_numbers model) in
     let same : length (map (multiple m) (objective_of model)) ≡ length (objective_of model) = length-map (objective_of model) (multiple m) in
@@ -163,17 +165,17 @@ pub large_from_denominator : (k : ℕ) (box : List Bounds) (row : FractionRow) �
 large_from_denominator k box row some h = inr (some, inl (wide_from_part k row.factors h))
 
 -- the constant and the first k terms of the objective
-pub large_from_objective_sum : (k : ℕ) (model : FractionModel) → IsHeavy (nat_abs (multiple (common_denominator (objective_numbers model)) model.constant) + span (take k (map (multiple (common_denominator (objective_numbers model))) (objective_of model))) (integer_rows model).box) → IsLargeObjective model
+pub large_from_objective_sum : (k : ℕ) (model : Model) → IsHeavy (nat_abs (multiple (common_denominator (objective_numbers model)) model.constant) + span (take k (map (multiple (common_denominator (objective_numbers model))) (objective_of model))) (integer_rows model).box) → IsLargeObjective model
 large_from_objective_sum k model h =
     let m = common_denominator (objective_numbers model) in
     inl (omega (arith, h, span-take_le k (map (multiple m) (objective_of model)) (integer_rows model).box))
 
 -- a common denominator of the first k of the objective's numbers
-pub large_from_objective_denominator : (k : ℕ) (model : FractionModel) → HasWideDenominator (take k (objective_numbers model)) → IsLargeObjective model
+pub large_from_objective_denominator : (k : ℕ) (model : Model) → HasWideDenominator (take k (objective_numbers model)) → IsLargeObjective model
 large_from_objective_denominator k model h = inr (wide_from_part k (objective_numbers model) h)
 
 -- a single coefficient of the objective
-pub large_from_objective_factor : (k : ℕ) (d : ℤ) (model : FractionModel) → k < length (objective_of model) → length (objective_of model) ≡ length (integer_rows model).box → IsHeavy (nat_abs (get_or (map (multiple (common_denominator (objective_numbers model))) (objective_of model)) k d)) → IsLargeObjective model
+pub large_from_objective_factor : (k : ℕ) (d : ℤ) (model : Model) → k < length (objective_of model) → length (objective_of model) ≡ length (integer_rows model).box → IsHeavy (nat_abs (get_or (map (multiple (common_denominator (objective_numbers model))) (objective_of model)) k d)) → IsLargeObjective model
 large_from_objective_factor k d model h long heavy =
     let m = common_denominator (objective_numbers model) in
     let box = (integer_rows model).box in
@@ -183,8 +185,8 @@ large_from_objective_factor k d model h long heavy =
     inl (omega (arith, heavy, factor_le_term (get_or multiples k d) (get_or box k zero_bounds), span-term_le k multiples box d zero_bounds (omega (arith, same)) (omega arith)))
 
 -- the lists of a model are as long as its columns
-pub box_long : (model : FractionModel) → length (integer_rows model).box ≡ length model.columns
+pub box_long : (model : Model) → length (integer_rows model).box ≡ length model.columns
 box_long model = length-map model.columns rounded_bounds
 
-pub coefficients_long : (n : ℕ) (items : List FractionItem) → length (coefficients_of n items) ≡ n
+pub coefficients_long : (n : ℕ) (items : List Item) → length (coefficients_of n items) ≡ n
 coefficients_long n items = length-map-range_with_len (coefficient_of items) 0 n

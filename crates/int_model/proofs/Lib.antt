@@ -1,16 +1,18 @@
 pub mod FlatLemmas
 pub mod SumLemmas
 pub mod WholeRowLemmas
-pub mod FactorLemmas
-pub mod IntegerRowLemmas
-pub mod PointLemmas
-pub mod LightLemmas
 pub mod DistinctLemmas
 pub mod ScaleLaws
-pub mod FractionPointLaws
+pub mod PointLaws
 pub mod LargeLaws
 pub mod FirstLargeLaws
 pub mod ScalingLaws
-mod WorkedRows
+pub mod CoefficientLaws
+pub mod ItemLaws
+pub mod LcmLemmas
+pub mod RowLaws
+pub mod ObjectiveLaws
+pub mod ValueLemmas
+pub mod IntegerRowLemmas
 mod WorkedScales
 mod WorkedModels

@@ -41,16 +41,18 @@ multiple_of_sum k a c x e =
 
 -- ---- the order under a positive factor
 
+-- a positive number is not 0
+pub not_zero : (k : ℚ) → whole (pos 0) <ℚ k → k ≢ whole (pos 0)
+not_zero k h z =
+    order.not_le_of_lt (whole (pos 0)) k h (subst (λ t. t ≤ℚ whole (pos 0)) (sym z) (order.le_refl (whole (pos 0))))
+
 -- a positive factor is cancelled
-cancel : (k p q : ℚ) → whole (pos 0) <ℚ k → k *ℚ p ≡ k *ℚ q → p ≡ q
+pub cancel : (k p q : ℚ) → whole (pos 0) <ℚ k → k *ℚ p ≡ k *ℚ q → p ≡ q
 cancel k p q h e = back p ∙ ap (λ t. inv_ℚ k *ℚ t) e ∙ sym (back q)
   where
-    not_zero : k ≢ whole (pos 0)
-    not_zero z = order.not_le_of_lt (whole (pos 0)) k h (subst (λ t. t ≤ℚ whole (pos 0)) (sym z) (order.le_refl (whole (pos 0))))
-
     back : (t : ℚ) → t ≡ inv_ℚ k *ℚ (k *ℚ t)
     back t =
-        sym (ring.mul_one t) ∙ ap (λ s. t *ℚ s) (sym (mul_inv k not_zero)) ∙ solve rationals (k ∷ inv_ℚ k ∷ t ∷ []) (search reads depth 30) (search reads depth 30) refl
+        sym (ring.mul_one t) ∙ ap (λ s. t *ℚ s) (sym (mul_inv k (not_zero k h))) ∙ solve rationals (k ∷ inv_ℚ k ∷ t ∷ []) (search reads depth 30) (search reads depth 30) refl
 
 -- an inequality is multiplied
 times_le : (k p q : ℚ) → whole (pos 0) <ℚ k → p ≤ℚ q → (k *ℚ p) ≤ℚ (k *ℚ q)
@@ -149,7 +151,7 @@ pub scaled-whole : (a : List ℚ) → map whole (scaled a) ≡ map (λ q. scale 
 scaled-whole a = whole_products (common_denominator a) (common_numerator a) a (dvd_refl _) (dvd_refl _)
 
 -- the sum of the whole coefficients is the sum of the coefficients times the scale
-scaled_sum : (a : List ℚ) (x : List ℤ) → whole (dot integers (scaled a) x) ≡ scale a *ℚ sum_at a x
+pub scaled_sum : (a : List ℚ) (x : List ℤ) → whole (dot integers (scaled a) x) ≡ scale a *ℚ sum_at a x
 scaled_sum a x = multiple_of_sum (scale a) a (scaled a) x (scaled-whole a)
 
 -- ---- order and points
@@ -271,7 +273,7 @@ primitive_scaled a = by_numerator (common_numerator a) refl
     by_numerator (suc n) e ne = primitive_over (common_denominator a) n a refl e
 
 -- the common divisor of the numerators divides the numerator of each coefficient
-common_numerator_dvd : (a : List ℚ) (k : ℕ) (q : ℚ) → k < length a → slice_index_or a k q ≡ q → common_numerator a ∣ nat_abs q.num
+pub common_numerator_dvd : (a : List ℚ) (k : ℕ) (q : ℚ) → k < length a → slice_index_or a k q ≡ q → common_numerator a ∣ nat_abs q.num
 common_numerator_dvd [] k q h e = absurd (omega arith)
 common_numerator_dvd (p ∷ a) zero q h e =
     subst (λ (t : ℚ). common_numerator (p ∷ a) ∣ nat_abs t.num) e (gcd_dvd_left (nat_abs p.num) (common_numerator a))
@@ -369,7 +371,7 @@ scale_unique k a c some e one =
     not_zero x h e = omega (linear, e)
 
 -- where no coefficient is other than 0 the common divisor of the numerators is 0
-no_numerator : (a : List ℚ) → All (λ q. q ≡ whole (pos 0)) a → common_numerator a ≡ 0
+pub no_numerator : (a : List ℚ) → All (λ q. q ≡ whole (pos 0)) a → common_numerator a ≡ 0
 no_numerator [] h = refl
 no_numerator (q ∷ a) h =
     ap₂ gcd (ap nat_abs (num_zero q (All-head (λ q. q ≡ whole (pos 0)) q a h))) (no_numerator a (All-tail (λ q. q ≡ whole (pos 0)) q a h)) ∙ gcd-zero 0

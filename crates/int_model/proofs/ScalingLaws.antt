@@ -20,8 +20,8 @@ use Rattle.frac128.specs.Range.{IsNarrow, InRange, ProductInRange}
 use Rattle.int_model.specs.declared.bounds.Bounds.{Bounds}
 use Rattle.int_model.specs.WholeRows.{reach, span}
 use Rattle.int_model.specs.Scale.{common_denominator, common_numerator, over_or_one, scale, scaled}
-use Rattle.int_model.specs.FractionModel.{FractionModel}
-use Rattle.int_model.specs.FractionRows.{integer_rows, objective_of, cost}
+use Rattle.int_model.specs.declared.model.Model.{Model}
+use Rattle.int_model.specs.IntegerRows.{integer_rows, objective_of, cost}
 use Rattle.int_model.specs.Large.{IsHeavy, HasWideDenominator, multiple, objective_numbers, IsLargeObjective}
 use Rattle.int_model.proofs.ScaleLaws.{scaled-whole, whole_product, cross_of_whole, zero_from_dvd, common_denominator_pos}
 use Rattle.int_model.proofs.LargeLaws.{objective_light}
@@ -69,7 +69,7 @@ unfolding whole
 whole_in_range z h = record { num = h; den = omega arith }
 
 -- a quotient
-quotient_in_range : (m n : ℕ) → m < 2 ^ 127 → n < 2 ^ 127 → InRange (over_or_one m n)
+pub quotient_in_range : (m n : ℕ) → m < 2 ^ 127 → n < 2 ^ 127 → InRange (over_or_one m n)
 unfolding frac
 quotient_in_range m zero h l = whole_in_range (pos 1) (omega arith)
 quotient_in_range m (suc n) h l = record {
@@ -141,7 +141,7 @@ cost_span m l n (q ∷ a) (bounds ∷ box) some h p d =
     add-le-add (mul-le-mul_right (reach bounds) first) rest
 
 -- where the objective is not large, the cost spans at most 2^96
-pub cost_light : (model : FractionModel) → (IsLargeObjective model → ⊥) → span (cost model) (integer_rows model).box ≤ 2 ^ 96
+pub cost_light : (model : Model) → (IsLargeObjective model → ⊥) → span (cost model) (integer_rows model).box ≤ 2 ^ 96
 cost_light model h =
     let m = common_denominator (objective_numbers model) in
     let a = objective_of model in

@@ -3,8 +3,12 @@ use Rattle.std.proofs.Common.{◌≡◌, ℕ, ◌^◌, ◌<◌, ◌≤◌, List,
 use Rattle.std.proofs.lemmas.List.Elements.{All-get_or}
 use Rattle.exact_math.specs.Ring.{integers}
 use Rattle.exact_vectors.specs.Vectors.{dot}
-use Rattle.int_model.specs.Points.{IsWithin}
-use Rattle.int_model.specs.WholeRows.{WholeRow, WholeRows, MeetsRow, row_at, span, weight, IsWithinLimits}
+use Rattle.int_model.specs.WholeRows.{IsWithin, WholeRow, WholeRows, MeetsRow, row_at, span, weight, IsWithinLimits}
+
+-- a row is light
+pub weight-row_at : (rows : WholeRows) (i : ℕ) → IsWithinLimits rows → i < length rows.rows → weight rows.box (row_at rows i) ≤ 2 ^ 96
+weight-row_at rows i limits h =
+    All-get_or (λ (row : WholeRow). weight rows.box row ≤ 2 ^ 96) rows.rows i (record { factors = []; low = None; high = None }) h limits.light.weights
 
 -- a row spans at most what it weighs
 pub span-row_at : (rows : WholeRows) (i : ℕ) → IsWithinLimits rows → i < length rows.rows → span (row_at rows i).factors rows.box ≤ 2 ^ 96

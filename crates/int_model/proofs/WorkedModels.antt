@@ -3,20 +3,21 @@ use Rattle.std.proofs.Common.{◌≡◌, ◌≢◌, inl, inr, ◌+◌, ◌-◌, 
 use Rattle.std.specs.Prelude.{Some, None}
 use Rattle.std.specs.List.{Any}
 use Rattle.exact_math.specs.Gcd.{gcd, gcd_within, lcm}
-use Rattle.exact_math.specs.Rational.{whole, frac, ◌+ℚ◌, ◌*ℚ◌}
+use Rattle.exact_math.specs.Rational.{whole, frac, ratio, inv_ℚ, ◌+ℚ◌, ◌*ℚ◌}
 use Rattle.exact_math.proofs.IntegerRing.{linear}
 use Rattle.exact_math.proofs.RationalLaws.{num_zero}
 use Rattle.frac128.specs.Range.{InRange}
 use Rattle.int_model.specs.declared.bounds.Bounds.{Bounds}
-use Rattle.int_model.specs.FractionModel.{NamedRow, FractionModel}
-use Rattle.int_model.specs.FractionPoints.{value_at}
-use Rattle.int_model.specs.FractionRows.{fraction_row, integer_rows, cost, cut_value}
+use Rattle.int_model.specs.declared.model.Row.{Row}
+use Rattle.int_model.specs.declared.model.Model.{Model}
+use Rattle.int_model.specs.Points.{value_at}
+use Rattle.int_model.specs.IntegerRows.{fraction_row, integer_rows, cost}
 use Rattle.int_model.specs.Scale.{common_denominator, scale, FractionRow, integer_row}
-use Rattle.int_model.specs.WholeRows.{weight}
+use Rattle.int_model.specs.WholeRows.{weight, cut_value}
 use Rattle.int_model.specs.Large.{IsLargeRow, objective_weight}
 
 -- 2x + 4y = 7
-even_sum : NamedRow
+even_sum : Row
 even_sum = record {
   name = [];
   lo = Some (whole (pos 7));
@@ -30,7 +31,7 @@ unfolding even_sum frac whole ◌+ℚ◌ ◌*ℚ◌ lcm gcd gcd_within
 row_of_even_sum = refl
 
 -- x/2 >= 5/4, x between 0 and 7/2
-half_above : FractionModel
+half_above : Model
 half_above = record {
   columns = record { name = []; lo = whole (pos 0); hi = frac (pos 7) 2 } ∷ [];
   rows = record { name = []; lo = Some (frac (pos 5) 4); hi = None; items = record { column = 0; factor = frac (pos 1) 2 } ∷ [] } ∷ [];
@@ -42,12 +43,15 @@ half_above = record {
 rows_of_half_above : integer_rows half_above ≡ record {
   box = record { low = pos 0; high = pos 3 } ∷ [];
   rows = record { factors = pos 1 ∷ []; low = Some (pos 3); high = None } ∷ [];
+  cost = pos 0 ∷ [];
+  step = whole (pos 1);
+  constant = whole (pos 0);
 }
-unfolding half_above frac whole ◌+ℚ◌ ◌*ℚ◌ lcm gcd gcd_within
+unfolding half_above frac whole inv_ℚ ratio ◌+ℚ◌ ◌*ℚ◌ lcm gcd gcd_within
 rows_of_half_above = refl
 
 -- the least of x/2 + 3y/2 - 1/4, x and y between 0 and 10
-priced : FractionModel
+priced : Model
 priced = record {
   columns = record { name = []; lo = whole (pos 0); hi = whole (pos 10) } ∷ record { name = []; lo = whole (pos 0); hi = whole (pos 10) } ∷ [];
   rows = [];
@@ -65,7 +69,7 @@ value_of_priced : value_at priced (pos 1 ∷ pos 2 ∷ []) ≡ frac (pos 13) 4
 unfolding priced frac whole ◌+ℚ◌ ◌*ℚ◌ lcm gcd gcd_within
 value_of_priced = refl
 
-cut_value_of_priced : cut_value priced (pos 1 ∷ pos 2 ∷ []) ≡ pos 7
+cut_value_of_priced : cut_value (integer_rows priced) (pos 1 ∷ pos 2 ∷ []) ≡ pos 7
 unfolding priced frac whole ◌+ℚ◌ ◌*ℚ◌ lcm gcd gcd_within
 cut_value_of_priced = refl
 

@@ -1,35 +1,51 @@
--- The integer rows of an integer program.
-use Rattle.std.specs.Prelude.{ℕ, ◌<◌, ℤ, pos, ◌+ℤ◌, List, [], ◌∷◌, length, map, All, AllPairs, if◌then◌else◌, ◌==◌}
+-- The integer rows of an integer program whose numbers are fractions.
+use Rattle.std.specs.Prelude.{ℕ, ◌<◌, ℤ, pos, List, [], ◌∷◌, length, map, All, AllPairs, if◌then◌else◌, ◌==◌}
 use Rattle.std.specs.List.{range_with_len}
+use Rattle.exact_math.specs.Rational.{ℚ, whole, ◌+ℚ◌, inv_ℚ, floor, ceil}
+use Rattle.int_model.specs.declared.bounds.Bounds.{Bounds}
+use Rattle.int_model.specs.WholeRows.{WholeRows}
+use Rattle.int_model.specs.Scale.{FractionRow, integer_row, scale, scaled}
 use Rattle.int_model.specs.declared.model.Item.{Item}
 use Rattle.int_model.specs.declared.model.Column.{Column}
 use Rattle.int_model.specs.declared.model.Row.{Row}
 use Rattle.int_model.specs.declared.model.Model.{Model}
-use Rattle.int_model.specs.declared.bounds.Bounds.{Bounds}
-use Rattle.int_model.specs.WholeRows.{WholeRow, WholeRows}
 
--- the factor of column j: the sum of the factors of the terms in that column
-abbrev pub factor_of : List Item → ℕ → ℤ
-factor_of [] j = pos 0
-factor_of (item ∷ items) j = (if item.column == j then item.factor else pos 0) +ℤ factor_of items j
+-- the coefficient of column j: the sum of the factors of the items in that column
+abbrev pub coefficient_of : List Item → ℕ → ℚ
+coefficient_of [] j = whole (pos 0)
+coefficient_of (item ∷ items) j = (if item.column == j then item.factor else whole (pos 0)) +ℚ coefficient_of items j
 
--- the factors of n columns
-abbrev pub factors_of : ℕ → List Item → List ℤ
-factors_of n items = map (factor_of items) (range_with_len 0 n)
+-- the coefficients of n columns
+abbrev pub coefficients_of : ℕ → List Item → List ℚ
+coefficients_of n items = map (coefficient_of items) (range_with_len 0 n)
 
--- a column's bounds
-abbrev pub bounds_of : Column → Bounds
-bounds_of column = record { low = column.lo; high = column.hi }
+-- the whole numbers between a column's bounds
+abbrev pub rounded_bounds : Column → Bounds
+rounded_bounds column = record { low = ceil column.lo; high = floor column.hi }
 
--- a row with a factor for each of n columns
-abbrev pub whole_row : ℕ → Row → WholeRow
-whole_row n row = record { factors = factors_of n row.items; low = row.lo; high = row.hi }
+-- a row with a coefficient for each of n columns
+abbrev pub fraction_row : ℕ → Row → FractionRow
+fraction_row n row = record { factors = coefficients_of n row.items; low = row.lo; high = row.hi }
 
--- the program's bounds and rows, without its names and its objective
+-- the objective's coefficients
+abbrev pub objective_of : Model → List ℚ
+objective_of model = coefficients_of (length model.columns) model.objective
+
+-- the objective times its scale: whole numbers without a common divisor above 1, or zeros only
+abbrev pub cost : Model → List ℤ
+cost model = scaled (objective_of model)
+
+-- the rounded bounds, the integer row of each row, and the objective over its scale
 abbrev pub integer_rows : Model → WholeRows
-integer_rows model = record { box = map bounds_of model.columns; rows = map (whole_row (length model.columns)) model.rows }
+integer_rows model = record {
+  box = map rounded_bounds model.columns;
+  rows = map (λ row. integer_row (fraction_row (length model.columns) row)) model.rows;
+  cost = cost model;
+  step = inv_ℚ (scale (objective_of model));
+  constant = model.constant;
+}
 
--- each term names one of n columns, and columns rise
+-- each item names one of n columns, and columns rise
 pub record IsDistinctBelow (n : ℕ) (items : List Item) : Type 0 where
   pub in_range : All (λ (item : Item). item.column < n) items
   pub rising : AllPairs (λ (a b : Item). a.column < b.column) items

@@ -1,15 +1,17 @@
 -- How much the parts of a model weigh, and the first part that is too large to be worked with in 128 bits.
-use Rattle.std.specs.Prelude.{◌≢◌, ⊤, ◌⊎◌, ℕ, ◌+◌, ◌^◌, ◌<◌, ◌≤◌, ℤ, pos, List, ◌∷◌, length, map, Option, Some, None, nat_abs}
+use Rattle.std.specs.Prelude.{◌≡◌, ◌≢◌, ⊤, ◌⊎◌, ℕ, ◌+◌, ◌^◌, ◌<◌, ◌≤◌, ℤ, pos, List, ◌∷◌, length, map, Option, Some, None, nat_abs}
 use Rattle.std.specs.List.{Any, HoldsAt}
 use Rattle.exact_math.specs.Rational.{ℚ, whole, ◌*ℚ◌}
 use Rattle.frac128.specs.Range.{ProductInRange}
 use Rattle.int_model.specs.declared.bounds.Bounds.{Bounds}
 use Rattle.int_model.specs.declared.part.Part.{Part}
-use Rattle.int_model.specs.declared.part.Part.TheVariants.{Column, Row, Objective}
+use Rattle.int_model.specs.declared.part.Part.TheVariants as parts
 use Rattle.int_model.specs.WholeRows.{reach, span, weight}
 use Rattle.int_model.specs.Scale.{common_denominator, scale, FractionRow, integer_row}
-use Rattle.int_model.specs.FractionModel.{FractionColumn, NamedRow, FractionModel}
-use Rattle.int_model.specs.FractionRows.{rounded_bounds, fraction_row, integer_rows, objective_of}
+use Rattle.int_model.specs.declared.model.Column.{Column}
+use Rattle.int_model.specs.declared.model.Row.{Row}
+use Rattle.int_model.specs.declared.model.Model.{Model}
+use Rattle.int_model.specs.IntegerRows.{rounded_bounds, fraction_row, integer_rows, objective_of}
 
 -- a weight above 2 to the power 96
 abbrev pub IsHeavy : ℕ → Type 0
@@ -25,7 +27,7 @@ LeavesRange factor None = ⊥
 LeavesRange factor (Some side) = ProductInRange factor side → ⊥
 
 -- the weight of a column is its reach over the rounded bounds
-abbrev pub IsLargeColumn : FractionColumn → Type 0
+abbrev pub IsLargeColumn : Column → Type 0
 IsLargeColumn column = IsHeavy (reach (rounded_bounds column))
 
 -- the common denominator of the coefficients is wide, or a side times the scale is out of range
@@ -41,45 +43,53 @@ abbrev pub multiple : ℕ → ℚ → ℤ
 multiple m q = (whole (pos m) *ℚ q).num
 
 -- the objective's numbers: the constant and the coefficients
-abbrev pub objective_numbers : FractionModel → List ℚ
+abbrev pub objective_numbers : Model → List ℚ
 objective_numbers model = model.constant ∷ objective_of model
 
 -- The constant and the coefficients are multiplied by their common denominator. The objective's weight is the size of
 -- the constant, and the sum of each coefficient's size times the reach of its column.
-abbrev pub objective_weight : FractionModel → ℕ
+abbrev pub objective_weight : Model → ℕ
 objective_weight model =
     let m = common_denominator (objective_numbers model) in
     nat_abs (multiple m model.constant) + span (map (multiple m) (objective_of model)) (integer_rows model).box
 
 -- the objective is heavy, or its numbers have a wide denominator
-abbrev pub IsLargeObjective : FractionModel → Type 0
+abbrev pub IsLargeObjective : Model → Type 0
 IsLargeObjective model = IsHeavy (objective_weight model) ⊎ HasWideDenominator (objective_numbers model)
 
 -- the row over the columns of the model
-abbrev pub IsLargeRowOf : FractionModel → NamedRow → Type 0
+abbrev pub IsLargeRowOf : Model → Row → Type 0
 IsLargeRowOf model row = IsLargeRow (integer_rows model).box (fraction_row (length model.columns) row)
 
 -- the part is one of the model's, and is large
-abbrev pub IsLargePart : FractionModel → Part → Type 0
-IsLargePart model (Column j) = (j < length model.columns) × HoldsAt IsLargeColumn model.columns j
-IsLargePart model (Row i) = (i < length model.rows) × HoldsAt (IsLargeRowOf model) model.rows i
-IsLargePart model Objective = IsLargeObjective model
+abbrev pub IsLargePart : Model → Part → Type 0
+IsLargePart model (parts.Column j) = (j < length model.columns) × HoldsAt IsLargeColumn model.columns j
+IsLargePart model (parts.Row i) = (i < length model.rows) × HoldsAt (IsLargeRowOf model) model.rows i
+IsLargePart model parts.Objective = IsLargeObjective model
 
 -- by number among columns and among rows; a column before each row, and the objective last
 abbrev pub ComesBefore : Part → Part → Type 0
-ComesBefore (Column j) (Column k) = j < k
-ComesBefore (Column j) (Row i) = ⊤
-ComesBefore (Column j) Objective = ⊤
-ComesBefore (Row i) (Column j) = ⊥
-ComesBefore (Row i) (Row k) = i < k
-ComesBefore (Row i) Objective = ⊤
-ComesBefore Objective part = ⊥
+ComesBefore (parts.Column j) (parts.Column k) = j < k
+ComesBefore (parts.Column j) (parts.Row i) = ⊤
+ComesBefore (parts.Column j) parts.Objective = ⊤
+ComesBefore (parts.Row i) (parts.Column j) = ⊥
+ComesBefore (parts.Row i) (parts.Row k) = i < k
+ComesBefore (parts.Row i) parts.Objective = ⊤
+ComesBefore parts.Objective part = ⊥
 
 -- a large part, before which no part is large
-pub record IsFirstLarge (model : FractionModel) (part : Part) : Type 0 where
+pub record IsFirstLarge (model : Model) (part : Part) : Type 0 where
   pub large : IsLargePart model part
   pub first : (other : Part) → ComesBefore other part → IsLargePart model other → ⊥
 
+-- the part is a large column, before which no column is large
+pub record IsFirstLargeColumn (columns : List Column) (part : Part) : Type 0 where
+  pub number : ℕ
+  pub named : part ≡ parts.Column number
+  pub within : number < length columns
+  pub large : HoldsAt IsLargeColumn columns number
+  pub first : (k : ℕ) → k < number → HoldsAt IsLargeColumn columns k → ⊥
+
 -- no part is large
-abbrev pub HasNoLargePart : FractionModel → Type 0
+abbrev pub HasNoLargePart : Model → Type 0
 HasNoLargePart model = (part : Part) → IsLargePart model part → ⊥

@@ -2,9 +2,7 @@ pub mod Points
 pub mod WholeRows
 pub mod IntegerRows
 pub mod FlatRows
-pub mod SmallModels
 pub mod Scale
-pub mod FractionModel
-pub mod FractionPoints
-pub mod FractionRows
 pub mod Large
+pub mod ItemFactors
+pub mod ObjectiveValues

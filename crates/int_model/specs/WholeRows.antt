@@ -1,10 +1,14 @@
 -- Rows of whole numbers with a factor for each column, over a box, and how large the numbers are that they lead to.
-use Rattle.std.specs.Prelude.{◌≡◌, ℕ, ◌+◌, ◌*◌, ◌^◌, ◌≤◌, max, ℤ, pos, ◌≤ℤ◌, List, [], ◌∷◌, length, Option, Some, None, All, slice_index_or, unsigned_abs}
+use Rattle.std.specs.Prelude.{◌≡◌, ℕ, ◌+◌, ◌*◌, ◌^◌, ◌≤◌, max, ℤ, pos, ◌≤ℤ◌, List, [], ◌∷◌, length, Option, Some, None, IfSome, All, slice_index_or, unsigned_abs}
 use Rattle.std.specs.List.{AllZip}
-use Rattle.int_model.specs.declared.bounds.Bounds.{Bounds}
 use Rattle.exact_math.specs.Ring.{integers}
+use Rattle.exact_math.specs.Rational.{ℚ, whole, ◌+ℚ◌, ◌*ℚ◌}
 use Rattle.exact_vectors.specs.Vectors.{dot}
-use Rattle.int_model.specs.Points.{IsWithin}
+use Rattle.int_model.specs.declared.bounds.Bounds.{Bounds}
+
+-- a value between two sides, both included; a side that is absent bounds nothing
+abbrev pub IsWithin : Option ℤ → Option ℤ → ℤ → Type 0
+IsWithin low high value = IfSome low (λ l. l ≤ℤ value) × IfSome high (λ h. value ≤ℤ h)
 
 -- the sum of each factor times the value in its place lies between the sides
 pub record WholeRow : Type 0 where
@@ -12,10 +16,14 @@ pub record WholeRow : Type 0 where
   pub low : Option ℤ
   pub high : Option ℤ
 
--- the bounds of each column, and the rows
+-- The bounds of each column, the rows, and the objective: a point's value is the constant and the step times the sum of
+-- each cost times the value in its place.
 pub record WholeRows : Type 0 where
   pub box : List Bounds
   pub rows : List WholeRow
+  pub cost : List ℤ
+  pub step : ℚ
+  pub constant : ℚ
 
 -- one value for each of the bounds, and between them
 abbrev pub LiesIn : List Bounds → List ℤ → Type 0
@@ -29,6 +37,19 @@ MeetsRow row x = IsWithin row.low row.high (dot integers row.factors x)
 pub record Meets (rows : WholeRows) (x : List ℤ) : Type 0 where
   pub in_box : LiesIn rows.box x
   pub in_rows : All (λ row. MeetsRow row x) rows.rows
+
+-- the sum of each cost times the value in its place
+abbrev pub cut_value : WholeRows → List ℤ → ℤ
+cut_value rows x = dot integers rows.cost x
+
+-- the value of the objective
+abbrev pub value_in : WholeRows → List ℤ → ℚ
+value_in rows x = rows.constant +ℚ rows.step *ℚ whole (cut_value rows x)
+
+-- a list that meets the rows, and none that does has a smaller cut value
+pub record HasLeastCutValue (rows : WholeRows) (x : List ℤ) : Type 0 where
+  pub meets : Meets rows x
+  pub least : (y : List ℤ) → Meets rows y → cut_value rows x ≤ℤ cut_value rows y
 
 -- row number i
 abbrev pub row_at : WholeRows → ℕ → WholeRow
@@ -62,12 +83,15 @@ pub record IsLight (rows : WholeRows) : Type 0 where
   pub reaches : All (λ bounds. reach bounds ≤ 2 ^ 96) rows.box
   pub weights : All (λ row. weight rows.box row ≤ 2 ^ 96) rows.rows
 
--- the limits that all integer rows keep: at most 256 columns and 256 rows, a factor for each column, and light
+-- The limits that all integer rows keep: at most 256 columns and 256 rows, a factor and a cost for each column, light
+-- rows and a light cost.
 pub record IsWithinLimits (rows : WholeRows) : Type 0 where
   pub few_columns : length rows.box ≤ 256
   pub few_rows : length rows.rows ≤ 256
   pub dense : All (λ (row : WholeRow). length row.factors ≡ length rows.box) rows.rows
   pub light : IsLight rows
+  pub priced : length rows.cost ≡ length rows.box
+  pub light_cost : span rows.cost rows.box ≤ 2 ^ 96
 
 -- the sum of the sizes of the products: no part of the sum of the products is larger in size
 abbrev pub size_sum : List ℤ → List ℤ → ℕ

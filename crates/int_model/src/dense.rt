@@ -1,26 +1,39 @@
-//! A row's terms as a factor for each column.
-ghost use Rattle.std.specs.Prelude.{◌≡◌, ◌++◌, OnOk};
-ghost use Rattle.int_model.specs.IntegerRows.{factors_of, IsDistinctBelow};
+//! A row's items as a whole number for each column.
+ghost use Rattle.std.specs.Prelude.{◌≡◌, ◌++◌, OnOk, IsErrOf, map};
+ghost use Rattle.exact_math.specs.Rational.{◌*ℚ◌};
+ghost use Rattle.int_model.specs.IntegerRows.{coefficients_of, IsDistinctBelow};
+ghost use Rattle.int_model.specs.ItemFactors.{LeavesRangeAt};
+ghost use Rattle.int_model.specs.declared.part.Part.{Part};
+ghost use Rattle.int_model.specs.declared.part.RowsStop.TheVariants as stops;
 
 use crate::model::Item;
-use sequence::NoMemory;
+use crate::part::{Part, RowsStop};
+use frac128::Frac;
 
-/// Puts a factor for each of `width` columns at the end: that of the column's term, or 0.
-pub(crate) fn push_factors(
-    factors: &mut Vec<i128>,
+/// Puts the numerator of `times` times the coefficient, for each of `width` columns, at the end. The part is large where
+/// such a product is out of range.
+pub(crate) fn push_products(
+    numbers: &mut Vec<i128>,
     width: usize,
     items: &[Item],
-) -> Result<(), NoMemory>
+    times: &Frac,
+    part: Part,
+) -> Result<(), RowsStop>
     requires { IsDistinctBelow width items.now }
-    ensures { OnOk result (factors.new.items ≡ factors.old.items ++ factors_of width items.now) }
+    ensures ok { OnOk result (numbers.new.items ≡ numbers.old.items ++ map (λ q. (times.now *ℚ q).num) (coefficients_of width items.now)) }
+    ensures part { (p : Part) → IsErrOf result (stops.Large p) → p ≡ part }
+    ensures large { IsErrOf result (stops.Large part) → LeavesRangeAt times.now (coefficients_of width items.now) }
 {
     let mut at = 0;
     for column in 0..width {
         if at < items.len() && items[at].column as usize == column {
-            factors.push(items[at].factor)?;
+            let Ok(product) = times.mul(&items[at].factor) else {
+                return Err(RowsStop::Large(part));
+            };
+            numbers.push(product.num())?;
             at += 1;
         } else {
-            factors.push(0)?;
+            numbers.push(0)?;
         }
     }
     Ok(())

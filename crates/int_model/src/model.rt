@@ -1,4 +1,5 @@
 //! An integer program as its text gives it.
+use frac128::Frac;
 use sequence::Sequence;
 
 /// The bytes of a row's or a column's name.
@@ -17,23 +18,23 @@ pub type Rows = Sequence<Row>;
 #[derive(Clone, Copy, Debug, PartialEq, Eq, Drop)]
 pub struct Item {
     pub column: u32,
-    pub factor: i128,
+    pub factor: Frac,
 }
 
 /// A whole-number variable between its two bounds, both included.
 #[derive(Debug, Drop)]
 pub struct Column {
     pub name: Name,
-    pub lo: i128,
-    pub hi: i128,
+    pub lo: Frac,
+    pub hi: Frac,
 }
 
 /// A sum of terms that lies between its sides, both included. A side that is absent bounds nothing.
 #[derive(Debug, Drop)]
 pub struct Row {
     pub name: Name,
-    pub lo: Option<i128>,
-    pub hi: Option<i128>,
+    pub lo: Option<Frac>,
+    pub hi: Option<Frac>,
     pub items: Items,
 }
 
@@ -44,5 +45,5 @@ pub struct Model {
     pub columns: Columns,
     pub rows: Rows,
     pub objective: Items,
-    pub constant: i128,
+    pub constant: Frac,
 }

@@ -2,8 +2,7 @@
 ghost use Rattle.std.specs.Prelude.{◌≡◌, ◌^◌, ◌≤◌, ◌↔◌, length, IsTrue};
 ghost use Rattle.exact_math.specs.Ring.{integers};
 ghost use Rattle.exact_vectors.specs.Vectors.{dot};
-ghost use Rattle.int_model.specs.Points.{IsWithin};
-ghost use Rattle.int_model.specs.WholeRows.{LiesIn, size_sum};
+ghost use Rattle.int_model.specs.WholeRows.{IsWithin, LiesIn, size_sum};
 
 use crate::bounds::Bounds;
 

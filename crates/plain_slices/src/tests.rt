@@ -1,10 +1,10 @@
 //! Small models with a known point, or with none.
-ghost use Rattle.std.specs.Prelude.{◌≡◌, ◌^◌, ◌≤◌, ◌<◌, length, All, IfOk, unsigned_abs};
+ghost use Rattle.std.specs.Prelude.{◌≡◌, ◌≤◌, length, All, IfOk};
 ghost use Rattle.int_model.specs.IntegerRows.{IsDistinctBelow};
-ghost use Rattle.int_model.specs.SmallModels.{IsSmall};
 
 use crate::plain_point;
-use int_model::{Column, Columns, IntRows, Item, Items, Model, Name, Row, Rows};
+use frac128::Frac;
+use int_model::{Column, Columns, IntRows, Item, Items, Model, Name, Row, Rows, RowsStop};
 use sequence::NoMemory;
 use std::alloc::Global;
 use std::test::Fail;
@@ -19,15 +19,14 @@ struct Equation<'a> {
 /// The terms of the first `width` columns.
 fn items_of(alloc: Global, width: usize, factors: &[i32]) -> Result<Items, NoMemory>
     requires { width ≤ 256 }
-    ensures distinct { IfOk result (λ items. IsDistinctBelow width items) }
-    ensures small { IfOk result (λ items. All (λ item. unsigned_abs item.factor ≤ 2 ^ 31) items) }
+    ensures { IfOk result (λ items. IsDistinctBelow width items) }
 {
     let mut items = Items::new(alloc);
     for j in 0..width {
         if j < factors.len() {
             items.push(Item {
                 column: j as u32,
-                factor: i128::from(factors[j]),
+                factor: Frac::whole(i128::from(factors[j])),
             })?;
         }
     }
@@ -36,15 +35,14 @@ fn items_of(alloc: Global, width: usize, factors: &[i32]) -> Result<Items, NoMem
 
 /// The columns without names.
 fn columns_of(alloc: Global, bounds: &[(i32, i32)]) -> Result<Columns, NoMemory>
-    ensures count { IfOk result (λ columns. length columns ≡ length bounds.now) }
-    ensures small { IfOk result (λ columns. All (λ column. (unsigned_abs column.lo ≤ 2 ^ 31) × (unsigned_abs column.hi ≤ 2 ^ 31)) columns) }
+    ensures { IfOk result (λ columns. length columns ≡ length bounds.now) }
 {
     let mut columns = Columns::new(alloc);
     for (lo, hi) in bounds {
         columns.push(Column {
             name: Name::new(alloc),
-            lo: i128::from(*lo),
-            hi: i128::from(*hi),
+            lo: Frac::whole(i128::from(*lo)),
+            hi: Frac::whole(i128::from(*hi)),
         })?;
     }
     Ok(columns)
@@ -55,17 +53,18 @@ fn model_of(alloc: Global, bounds: &[(i32, i32)], equations: &[Equation]) -> Res
     requires { length bounds.now ≤ 256 }
     ensures columns { IfOk result (λ model. length model.columns ≡ length bounds.now) }
     ensures rows { IfOk result (λ model. length model.rows ≡ length equations.now) }
-    ensures distinct { IfOk result (λ model. All (λ row. IsDistinctBelow (length model.columns) row.items) model.rows) }
-    ensures small { IfOk result (IsSmall (2 ^ 31) (2 ^ 31) (2 ^ 31)) }
+    ensures items { IfOk result (λ model. All (λ row. IsDistinctBelow (length model.columns) row.items) model.rows) }
+    ensures objective { IfOk result (λ model. IsDistinctBelow (length model.columns) model.objective) }
 {
     let columns = columns_of(alloc, bounds)?;
     let mut rows = Rows::new(alloc);
     for equation in equations {
         let items = items_of(alloc, bounds.len(), equation.factors)?;
+        let side = Frac::whole(i128::from(equation.side));
         rows.push(Row {
             name: Name::new(alloc),
-            lo: Some(i128::from(equation.side)),
-            hi: Some(i128::from(equation.side)),
+            lo: Some(side),
+            hi: Some(side),
             items,
         })?;
     }
@@ -73,7 +72,7 @@ fn model_of(alloc: Global, bounds: &[(i32, i32)], equations: &[Equation]) -> Res
         columns,
         rows,
         objective: Items::new(alloc),
-        constant: 0,
+        constant: Frac::whole(0),
     })
 }
 
@@ -82,7 +81,7 @@ fn rows_of(
     alloc: Global,
     bounds: &[(i32, i32)],
     equations: &[Equation],
-) -> Result<IntRows, NoMemory>
+) -> Result<IntRows, RowsStop>
     requires columns { length bounds.now ≤ 256 }
     requires rows { length equations.now ≤ 256 }
 {
