@@ -2,3 +2,4 @@ pub mod Counts
 pub mod Desk
 pub mod Memory
 pub mod Names
+pub mod Sure

@@ -7,11 +7,13 @@ mod fault;
 mod memory;
 mod real;
 mod short_name;
+mod sure;
 mod unread;
 
 pub use desk::{Call, Desk, DeskStop, Failed, NoMemory};
 pub use memory::MemDesk;
 pub use real::RealDesk;
+pub use sure::SureDesk;
 
 #[cfg(test)]
 mod tests;

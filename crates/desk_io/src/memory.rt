@@ -80,6 +80,13 @@ impl MemDesk {
         Ok(())
     }
 
+    /// Whether there is an input of that name.
+    pub fn has_input(&self, name: &str) -> bool
+        ensures { result ≡ is_some (input_of self.now name.now) }
+    {
+        self.inputs.contains_key(name)
+    }
+
     /// What was put into the output of that name.
     pub fn written(&self, name: &str) -> &[u8]
         ensures { result.now ≡ output_of self.now name.now }

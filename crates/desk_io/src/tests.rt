@@ -1,4 +1,4 @@
-use crate::{Desk, DeskStop, Failed, MemDesk, RealDesk};
+use crate::{Desk, DeskStop, Failed, MemDesk, RealDesk, SureDesk};
 use std::fs;
 use std::test::Fail;
 
@@ -60,6 +60,23 @@ fn a_take_without_an_input_fails(rt: HostRuntime) -> Result<(), Fail> {
     desk.put("proof", b"one")?;
     assert_eq!(rt; desk.take("proof", &mut [0u8; 1]), Err(Failed));
     assert_eq!(rt; desk.faults(), 1);
+    Ok(())
+}
+
+#[test]
+fn a_sure_desk_never_fails(rt: HostRuntime) -> Result<(), Fail> {
+    let mut desk = SureDesk::new(rt.alloc());
+    desk.add_input("model", b"ab")?;
+    let mut buf = [0u8; 4];
+    assert_eq!(rt; desk.take("missing", &mut buf), Ok(0));
+    assert_eq!(rt; desk.take("model", &mut buf), Ok(2));
+    assert_eq!(rt; buf[..2], b"ab"[..]);
+    assert_eq!(rt; desk.take("model", &mut buf), Ok(0));
+    desk.put("proof", b"one")?;
+    desk.say(b"yes")?;
+    assert_eq!(rt; desk.written("proof"), b"one".as_slice());
+    assert_eq!(rt; desk.said(), b"yes".as_slice());
+    assert_eq!(rt; desk.faults(), 0);
     Ok(())
 }
 
