@@ -1,5 +1,6 @@
 //! Worked values of the definitions, and the law that a text is read in one way.
-ghost use Rattle.std.specs.Prelude.{◌≡◌, ◌↔◌, ◌+◌, ◌≤◌, IfSome, ℕ, List, [], ◌∷◌, codes, Some, None, Ok, Err, pos, negsuc, true, false};
+ghost use Rattle.std.specs.Prelude.{◌≡◌, ◌↔◌, ◌+◌, ◌-◌, ◌≤◌, IfSome, ℕ, not, List, [], ◌∷◌, ◌++◌, filter, replicate, codes, Some, None, Ok, Err, pos, negsuc, true, false};
+ghost use Rattle.std.specs.List.{range_with_len};
 ghost use Rattle.exact_math.specs.Rational.{frac, whole};
 ghost use Rattle.mps_fields.specs.Lines.{lines_of, is_comment, is_blank_line, is_data_line, is_section_line};
 ghost use Rattle.mps_fields.specs.FreeFields.{free_fields, AreFields};
@@ -47,6 +48,18 @@ pub fn worked_fields()
     ensures in_columns { is_in_columns (codes " UP B        x") ≡ false }
     ensures tab { is_in_columns (32 ∷ 85 ∷ 9 ∷ []) ≡ false }
     ensures short { is_in_columns (codes " UP B") ≡ true }
+{}
+
+/// The columns of fixed form: each byte of this line of 64 is the number of its column, and 32 is the blank.
+pub fn worked_columns()
+    ensures fields { fixed_fields (range_with_len 1 64) ≡
+        Some (record { at = 1; text = range_with_len 2 2 }) ∷ Some (record { at = 4; text = range_with_len 5 8 })
+        ∷ Some (record { at = 14; text = range_with_len 15 8 }) ∷ Some (record { at = 24; text = range_with_len 25 12 })
+        ∷ Some (record { at = 39; text = range_with_len 40 8 }) ∷ Some (record { at = 49; text = range_with_len 50 12 }) ∷ [] }
+    ensures gaps { filter (λ column. not (is_in_columns (replicate (column - 1) 32 ++ codes "x"))) (range_with_len 1 64) ≡
+        1 ∷ 4 ∷ 13 ∷ 14 ∷ 23 ∷ 24 ∷ 37 ∷ 38 ∷ 39 ∷ 48 ∷ 49 ∷ [] }
+    ensures last_tab_refused { is_in_columns (replicate 60 32 ++ 9 ∷ []) ≡ false }
+    ensures first_tab_taken { is_in_columns (replicate 61 32 ++ 9 ∷ []) ≡ true }
 {}
 
 /// A text is a number in one way at most, and `decimal_of` finds it.

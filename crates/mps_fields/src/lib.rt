@@ -12,8 +12,8 @@ mod scale;
 mod text_lines;
 
 pub use examples::{
-    fixed_fields_lie_in_columns, free_fields_are_runs, one_reading, worked_fields, worked_lines,
-    worked_numbers,
+    fixed_fields_lie_in_columns, free_fields_are_runs, one_reading, worked_columns, worked_fields,
+    worked_lines, worked_numbers,
 };
 pub use field::Field;
 pub use fixed_form::{FixedFields, fields_fixed};

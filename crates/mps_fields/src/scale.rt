@@ -11,6 +11,9 @@ use frac128::Frac;
 // One more than the greatest size of the numbers of a `Frac`.
 const LIMIT: u128 = 1 << 127;
 
+// A number of at most this size and one more digit fit 64 bits.
+const SHORT: u128 = 1_000_000_000_000_000_000;
+
 // The greatest power of ten below the limit.
 const MOST_ZEROS: u128 = 38;
 
@@ -18,9 +21,11 @@ fn with_digit(value: u128, digit: u8) -> Option<u128>
     requires { IsTrue (is_digit digit) }
     ensures { let next = 10 * value + (digit - 48) in SomeIff result (next < 2 ^ 127) next }
 {
-    let value = value
-        .checked_mul(10)?
-        .checked_add(u128::from(digit - b'0'))?;
+    let digit = digit - b'0';
+    if value <= SHORT {
+        return Some(u128::from(value as u64 * 10 + u64::from(digit)));
+    }
+    let value = value.checked_mul(10)?.checked_add(u128::from(digit))?;
     if value < LIMIT { Some(value) } else { None }
 }
 
@@ -87,7 +92,7 @@ fn raised(is_negative: bool, size: u128, zeros: u128) -> Option<Frac>
     if size >= LIMIT {
         return None;
     }
-    Some(fraction(is_negative, size, 1))
+    Some(Frac::whole(signed(is_negative, size)))
 }
 
 // A number with so many digits after the point.
