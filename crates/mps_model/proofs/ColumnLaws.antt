@@ -1,17 +1,19 @@
 -- In a text without fault each column is an integer between two bounds.
 use Rattle.std.proofs.Common.{◌≡◌, ◌&&◌, ℤ, ℕ, List, [], ◌∷◌, Bool, true, false, not, cond, length, Option, Some, None, refl}
-use Rattle.std.specs.Prelude.{filter_map, slice_get, is_some, option_map}
-use Rattle.std.specs.Option.{option_or}
+use Rattle.std.specs.Prelude.{filter_map, slice_get, is_some}
 use Rattle.std.specs.List.{list_all, list_any, cons_option}
+use Rattle.mps_fields.proofs.Booleans.{true_both}
 use Rattle.mps_model.specs.declared.layout.Layout.{Layout}
 use Rattle.mps_model.specs.declared.fault.FaultKind.{FaultKind}
 use Rattle.mps_model.specs.declared.fault.FaultKind.TheVariants as faults
-use Rattle.mps_model.specs.Sections.{ENDATA, begins, text_lines}
+use Rattle.mps_model.specs.declared.section.Section.TheVariants.{Endata as ENDATA}
+use Rattle.mps_model.specs.Sections.{begins, text_lines}
 use Rattle.mps_model.specs.Tables.{Tables, tables_of}
 use Rattle.mps_model.specs.Bounds.{column_names, lower_of, upper_of, is_integer}
 use Rattle.mps_model.specs.Stated.{model_lines}
 use Rattle.mps_model.specs.Rules.{first_holding}
 use Rattle.mps_model.specs.Meaning.{fault_on, first_line_fault, judged_lines, column_kind, first_line_of, column_fault_at, first_column_fault, whole_fault, fault_at, is_settled, are_settled}
+use Rattle.mps_model.proofs.ScanLaws.{nothing_first, unmapped}
 
 -- ---- over plain variables
 
@@ -23,23 +25,11 @@ rest_none : {B : Type 0} (o : Option B) (rest : List B) → slice_get (cons_opti
 rest_none None rest h = h
 rest_none (Some y) rest h = cc
 
-both : (a b : Bool) → a ≡ true → b ≡ true → (a && b) ≡ true
-both true b h k = k
-both false b h k = cc
-
 all_pass : {A B : Type 0} (f : A → Option B) (test : A → Bool) → ((x : A) → f x ≡ None → test x ≡ true)
     → (xs : List A) → slice_get (filter_map f xs) 0 ≡ None → list_all test xs ≡ true
 all_pass f test passes [] h = refl
 all_pass f test passes (x ∷ xs) h =
-    both (test x) (list_all test xs) (passes x (first_none (f x) (filter_map f xs) h)) (all_pass f test passes xs (rest_none (f x) (filter_map f xs) h))
-
-unmapped : {A B : Type 0} (f : A → B) (o : Option A) → option_map f o ≡ None → o ≡ None
-unmapped f None h = refl
-unmapped f (Some x) h = cc
-
-second_none : {A : Type 0} (o p : Option A) → option_or o p ≡ None → p ≡ None
-second_none None p h = h
-second_none (Some x) p h = cc
+    true_both (test x) (list_all test xs) (passes x (first_none (f x) (filter_map f xs) h)) (all_pass f test passes xs (rest_none (f x) (filter_map f xs) h))
 
 under : {A : Type 0} (b : Bool) (o : Option A) (x : A) → cond b o (Some x) ≡ None → o ≡ None
 under true o x h = h
@@ -71,4 +61,4 @@ faultless_settled layout given text h =
     all_settled given (tables_of layout (model_lines text))
     (under (list_any (begins ENDATA) (text_lines text)) (first_column_fault given (tables_of layout (model_lines text)))
     (fault_on (length (text_lines text)) faults.NoEnd)
-    (second_none (first_line_fault layout [] (judged_lines text)) (whole_fault layout given text) h))
+    (nothing_first (first_line_fault layout [] (judged_lines text)) (whole_fault layout given text) h).1)

@@ -1,7 +1,7 @@
 -- A text has one meaning.
 use Rattle.std.proofs.Common.{◌≡◌, ◌↔◌, ◌⊎◌, ℤ, ℕ, List, Option, Some, None, Ok, Err, refl}
 use Rattle.std.proofs.Common.{inl, inr}
-use Rattle.int_model.specs.FractionModel.{FractionModel}
+use Rattle.int_model.specs.declared.model.Model.{Model}
 use Rattle.mps_model.specs.declared.layout.Layout.{Layout}
 use Rattle.mps_model.specs.declared.fault.TextFault.{TextFault}
 use Rattle.mps_model.specs.Stated.{means}
@@ -9,23 +9,23 @@ use Rattle.mps_model.specs.Meaning.{unless_fault, fault_at, meaning, Means, Faul
 
 -- ---- over any model and any fault or none
 
-unless-none : (m : FractionModel) (o : Option TextFault) (model : FractionModel) → unless_fault m o ≡ Ok model → o ≡ None
+unless-none : (m : Model) (o : Option TextFault) (model : Model) → unless_fault m o ≡ Ok model → o ≡ None
 unless-none m None model h = refl
 unless-none m (Some fault) model h = cc
 
-unless-model : (m : FractionModel) (o : Option TextFault) (model : FractionModel) → unless_fault m o ≡ Ok model → m ≡ model
+unless-model : (m : Model) (o : Option TextFault) (model : Model) → unless_fault m o ≡ Ok model → m ≡ model
 unless-model m None model h = cc
 unless-model m (Some fault) model h = cc
 
-unless-ok : (m : FractionModel) (o : Option TextFault) (model : FractionModel) → o ≡ None → m ≡ model → unless_fault m o ≡ Ok model
+unless-ok : (m : Model) (o : Option TextFault) (model : Model) → o ≡ None → m ≡ model → unless_fault m o ≡ Ok model
 unless-ok m None model n e = cc
 unless-ok m (Some fault) model n e = cc
 
-unless-fault : (m : FractionModel) (o : Option TextFault) (fault : TextFault) → unless_fault m o ≡ Err fault → o ≡ Some fault
+unless-fault : (m : Model) (o : Option TextFault) (fault : TextFault) → unless_fault m o ≡ Err fault → o ≡ Some fault
 unless-fault m None fault h = cc
 unless-fault m (Some found) fault h = cc
 
-unless-err : (m : FractionModel) (o : Option TextFault) (fault : TextFault) → o ≡ Some fault → unless_fault m o ≡ Err fault
+unless-err : (m : Model) (o : Option TextFault) (fault : TextFault) → o ≡ Some fault → unless_fault m o ≡ Err fault
 unless-err m None fault h = cc
 unless-err m (Some found) fault h = cc
 
@@ -35,7 +35,7 @@ either (Some fault) = inr (fault, refl)
 
 -- ---- of a text
 
-pub meaning_ok : (layout : Layout) (given : Option ℤ) (text : List ℕ) (model : FractionModel) → (meaning layout given text ≡ Ok model) ↔ Means layout given text model
+pub meaning_ok : (layout : Layout) (given : Option ℤ) (text : List ℕ) (model : Model) → (meaning layout given text ≡ Ok model) ↔ Means layout given text model
 unfolding meaning
 meaning_ok layout given text model = (
   λ h. record { faultless = unless-none (means layout given text) (fault_at layout given text) model h; stated = unless-model (means layout given text) (fault_at layout given text) model h },

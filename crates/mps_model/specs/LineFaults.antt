@@ -9,7 +9,9 @@ use Rattle.mps_model.specs.declared.layout.Layout.{Layout}
 use Rattle.mps_model.specs.declared.layout.Layout.TheVariants.{Free, Fixed}
 use Rattle.mps_model.specs.declared.fault.FaultKind.{FaultKind}
 use Rattle.mps_model.specs.declared.fault.FaultKind.TheVariants as faults
-use Rattle.mps_model.specs.Sections.{Section, NAME, ROWS, COLUMNS, RHS, RANGES, BOUNDS, free_texts, begins, section_at, is_content}
+use Rattle.mps_model.specs.declared.section.Section.{Section}
+use Rattle.mps_model.specs.declared.section.Section.TheVariants.{Name as NAME, Rows as ROWS, Columns as COLUMNS, Rhs as RHS, Ranges as RANGES, Bounds as BOUNDS}
+use Rattle.mps_model.specs.Sections.{free_texts, begins, section_at, is_content}
 use Rattle.mps_model.specs.SectionOrder.{sections_in, is_in_order}
 use Rattle.mps_model.specs.Tables.{is_marker, row_at, marker_at, entries_at, set_at, bound_kind_at, Tables, tables_of}
 use Rattle.mps_model.specs.Rules.{first_holding}

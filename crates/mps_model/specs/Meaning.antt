@@ -3,13 +3,14 @@
 use Rattle.std.specs.Prelude.{◌≡◌, ◌⊎◌, is_some, ℕ, ◌+◌, Bool, not, ◌&&◌, if◌then◌else◌, List, [], ◌∷◌, ◌++◌, take, length, filter_map, slice_get, ℤ, Option, Some, None, is_none, Result, Ok, Err, option_map, true, false}
 use Rattle.std.specs.Option.{option_map_or, option_or}
 use Rattle.std.specs.List.{list_any, list_all, position_or_len}
-use Rattle.int_model.specs.FractionModel.{FractionModel}
+use Rattle.int_model.specs.declared.model.Model.{Model}
 use Rattle.mps_fields.specs.Lines.{Line}
 use Rattle.mps_model.specs.declared.layout.Layout.{Layout}
 use Rattle.mps_model.specs.declared.fault.FaultKind.{FaultKind}
 use Rattle.mps_model.specs.declared.fault.FaultKind.TheVariants as faults
 use Rattle.mps_model.specs.declared.fault.TextFault.{TextFault}
-use Rattle.mps_model.specs.Sections.{ENDATA, begins, text_lines}
+use Rattle.mps_model.specs.declared.section.Section.TheVariants.{Endata as ENDATA}
+use Rattle.mps_model.specs.Sections.{begins, text_lines}
 use Rattle.mps_model.specs.Tables.{Tables, tables_of}
 use Rattle.mps_model.specs.Sides.{is_negative}
 use Rattle.mps_model.specs.Bounds.{lines_of_column, column_names, lower_entries, lower_of, upper_of, is_integer}
@@ -65,16 +66,16 @@ whole_fault layout given text =
 unfoldable pub fault_at : Layout → Option ℤ → List ℕ → Option TextFault
 fault_at layout given text = option_or (first_line_fault layout [] (judged_lines text)) (whole_fault layout given text)
 
-abbrev pub unless_fault : FractionModel → Option TextFault → Result FractionModel TextFault
+abbrev pub unless_fault : Model → Option TextFault → Result Model TextFault
 unless_fault model None = Ok model
 unless_fault model (Some fault) = Err fault
 
 -- what a text means: the model that it states, unless it has a fault
-unfoldable pub meaning : Layout → Option ℤ → List ℕ → Result FractionModel TextFault
+unfoldable pub meaning : Layout → Option ℤ → List ℕ → Result Model TextFault
 meaning layout given text = unless_fault (means layout given text) (fault_at layout given text)
 
 -- the text has no fault, and states this model
-pub record Means (layout : Layout) (given : Option ℤ) (text : List ℕ) (model : FractionModel) : Type 0 where
+pub record Means (layout : Layout) (given : Option ℤ) (text : List ℕ) (model : Model) : Type 0 where
   pub faultless : fault_at layout given text ≡ None
   pub stated : means layout given text ≡ model
 
@@ -84,9 +85,9 @@ FaultAt layout given text fault = fault_at layout given text ≡ Some fault
 
 -- exactly one holds: the text states a model, and no other; or it has a first fault, and no other
 pub record HasOneMeaning (layout : Layout) (given : Option ℤ) (text : List ℕ) : Type 0 where
-  pub some : ((model : FractionModel) × Means layout given text model) ⊎ ((fault : TextFault) × FaultAt layout given text fault)
-  pub not_both : (model : FractionModel) (fault : TextFault) → Means layout given text model → FaultAt layout given text fault → ⊥
-  pub one_model : (model other : FractionModel) → Means layout given text model → Means layout given text other → model ≡ other
+  pub some : ((model : Model) × Means layout given text model) ⊎ ((fault : TextFault) × FaultAt layout given text fault)
+  pub not_both : (model : Model) (fault : TextFault) → Means layout given text model → FaultAt layout given text fault → ⊥
+  pub one_model : (model other : Model) → Means layout given text model → Means layout given text other → model ≡ other
   pub one_fault : (fault other : TextFault) → FaultAt layout given text fault → FaultAt layout given text other → fault ≡ other
 
 -- a column is an integer between two bounds

@@ -1,10 +1,12 @@
--- The order of the sections of a model text, as in fixed and free MPS (IBM's MPSX and its successors): NAME, which may be
--- missing; ROWS; COLUMNS; RHS, which may be missing; RANGES and BOUNDS in either order, each of which may be missing;
--- ENDATA. Each comes at most once.
+-- The order of the sections of a model text, as in fixed and free MPS (IBM's MPSX and its successors): ROWS and COLUMNS
+-- in front, with or without a NAME above, and ENDATA last; between them RHS, and behind it RANGES and BOUNDS, which may
+-- change places, as far as they are there. None comes twice.
 use Rattle.std.specs.Prelude.{Bool, true, false, not, ◌&&◌, List, filter_map, Option, Some, None, bytes_eq}
 use Rattle.std.specs.List.{list_any, last_or}
 use Rattle.mps_fields.specs.Lines.{Line}
-use Rattle.mps_model.specs.Sections.{Section, NAME, ROWS, COLUMNS, RHS, RANGES, BOUNDS, ENDATA, word_of, section_at}
+use Rattle.mps_model.specs.declared.section.Section.{Section}
+use Rattle.mps_model.specs.declared.section.Section.TheVariants.{Name as NAME, Rows as ROWS, Columns as COLUMNS, Rhs as RHS, Ranges as RANGES, Bounds as BOUNDS, Endata as ENDATA}
+use Rattle.mps_model.specs.Sections.{word_of, section_at}
 
 -- a section may stand next behind another
 abbrev pub may_follow : Section → Section → Bool

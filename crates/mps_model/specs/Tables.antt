@@ -4,7 +4,10 @@ use Rattle.std.specs.Prelude.{ℕ, Bool, true, false, option_and_then, if◌then
 use Rattle.std.specs.Option.{option_map_or}
 use Rattle.mps_fields.specs.Lines.{Line}
 use Rattle.mps_model.specs.declared.layout.Layout.{Layout}
-use Rattle.mps_model.specs.Sections.{ROWS, COLUMNS, RHS, RANGES, BOUNDS, table_of}
+use Rattle.mps_model.specs.declared.section.Section.TheVariants.{Rows as ROWS, Columns as COLUMNS, Rhs as RHS, Ranges as RANGES, Bounds as BOUNDS}
+use Rattle.mps_model.specs.Sections.{table_of}
+use Rattle.mps_model.specs.declared.bound_kind.BoundKind.{BoundKind}
+use Rattle.mps_model.specs.declared.bound_kind.BoundKind.TheVariants.{Lo as LO, Up as UP, Fx as FX, Fr as FR, Mi as MI, Pl as PL, Bv as BV, Li as LI, Ui as UI}
 use Rattle.mps_model.specs.Places.{Fields, row_places, column_places, set_places, value_places, bare_places, marker_places, places, kind_text, mark_text}
 
 -- a line of ROWS: a kind, which is to be N, E, L or G, and a name
@@ -54,10 +57,6 @@ pub data ColumnLine : Type 0 where
 
 abbrev pub is_marker : Layout → List ℕ → Bool
 is_marker layout line = option_map_or (bytes_eq (codes "'MARKER'")) (mark_text layout line) false
-
--- the kinds of bounds
-pub data BoundKind : Type 0 where
-  LO UP FX FR MI PL BV LI UI : BoundKind
 
 abbrev pub bound_word : BoundKind → List ℕ
 bound_word LO = codes "LO"

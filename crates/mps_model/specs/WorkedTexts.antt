@@ -4,7 +4,9 @@ use Rattle.std.specs.Prelude.{Some, ℕ, List, [], ◌∷◌, ◌++◌, map, fla
 use Rattle.std.specs.List.{range_with_len}
 use Rattle.mps_model.specs.Tables.{RowLine, ColumnLine, entries, Tables}
 use Rattle.exact_math.specs.Rational.{whole}
-use Rattle.int_model.specs.FractionModel.{FractionItem, FractionColumn, NamedRow}
+use Rattle.int_model.specs.declared.model.Item.{Item}
+use Rattle.int_model.specs.declared.model.Column.{Column}
+use Rattle.int_model.specs.declared.model.Row.{Row}
 
 -- a text of lines, each with a line feed behind it
 abbrev pub text_of : List (List ℕ) → List ℕ
@@ -66,16 +68,57 @@ split_fixed = returned_text_of (codes "NAME          SPLIT"
     ∷ codes "ENDATA"
     ∷ [])
 
+-- the same market split in free form, with a line for each number, and both bounds of each column
+abbrev pub split_free : List ℕ
+split_free = text_of (codes "NAME SLICER"
+    ∷ codes "ROWS" ∷ codes " N COST" ∷ codes " E R1" ∷ codes " E R2"
+    ∷ codes "COLUMNS"
+    ∷ codes " X1 R1 71" ∷ codes " X1 R2 37" ∷ codes " X2 R1 94" ∷ codes " X2 R2 41" ∷ codes " X3 R1 86" ∷ codes " X3 R2 83"
+    ∷ codes "RHS" ∷ codes " R1 125" ∷ codes " R2 80"
+    ∷ codes "BOUNDS"
+    ∷ codes " LI X1 0" ∷ codes " UI X1 1" ∷ codes " LI X2 0" ∷ codes " UI X2 1" ∷ codes " LI X3 0" ∷ codes " UI X3 1"
+    ∷ codes "ENDATA"
+    ∷ [])
+
+-- the example in fixed form of docs/FORMATS.md, with a row of this name of seven bytes: x/2 - 3 is to be least, with markers and ranges
+abbrev pub small_fixed : List ℕ → List ℕ
+small_fixed name = text_of (codes "* a small model in fixed form"
+    ∷ codes "NAME          SMALL"
+    ∷ codes "ROWS"
+    ∷ codes " N  c"
+    ∷ (codes " E  " ++ name)
+    ∷ codes " L  q"
+    ∷ codes "COLUMNS"
+    ∷ codes "    M1        'MARKER'                 'INTORG'"
+    ∷ (codes "    x         c         0.5            " ++ name ++ codes "   1")
+    ∷ codes "    x         q         1"
+    ∷ codes "    M2        'MARKER'                 'INTEND'"
+    ∷ (codes "    y         " ++ name ++ codes "   1")
+    ∷ codes "RHS"
+    ∷ (codes "    S         c         3              " ++ name ++ codes "   5")
+    ∷ codes "RANGES"
+    ∷ (codes "    R         " ++ name ++ codes "   -3             q         4")
+    ∷ codes "BOUNDS"
+    ∷ codes " UP B         x         9"
+    ∷ codes " BV B         y"
+    ∷ codes "ENDATA"
+    ∷ [])
+
+-- a bound in fixed form without a set name, of a kind that takes no value, with a value that is not read
+abbrev pub unnamed_bound : List ℕ
+unnamed_bound = text_of (codes "ROWS" ∷ codes " E  R1" ∷ codes "COLUMNS" ∷ codes "    X1        R1        1" ∷ codes "BOUNDS"
+    ∷ codes " BV           X1        5" ∷ codes "ENDATA" ∷ [])
+
 -- the item of a column
-abbrev pub item : ℕ → ℕ → FractionItem
+abbrev pub item : ℕ → ℕ → Item
 item column factor = record { column = column; factor = whole (pos factor) }
 
 -- an equation of this name over these items
-abbrev pub equation : List ℕ → ℕ → List FractionItem → NamedRow
+abbrev pub equation : List ℕ → ℕ → List Item → Row
 equation name side items = record { name = name; lo = Some (whole (pos side)); hi = Some (whole (pos side)); items = items }
 
 -- a column from 0 to this bound
-abbrev pub column_to : ℕ → List ℕ → FractionColumn
+abbrev pub column_to : ℕ → List ℕ → Column
 column_to hi name = record { name = name; lo = whole (pos 0); hi = whole (pos hi) }
 
 -- two N rows, of which the first is the objective
@@ -90,7 +133,7 @@ marked = text_of (codes "ROWS" ∷ codes " N c" ∷ codes "COLUMNS" ∷ codes " 
     ∷ codes "ENDATA" ∷ [])
 
 -- the row r with these sides, and x in it with the factor 1
-abbrev pub row_between : Option ℤ → Option ℤ → List NamedRow
+abbrev pub row_between : Option ℤ → Option ℤ → List Row
 row_between lo hi = (record {
   name = codes "r";
   lo = option_map whole lo;
@@ -99,7 +142,7 @@ row_between lo hi = (record {
 }) ∷ []
 
 -- the one column of a model, with its bounds
-abbrev pub column_between : List ℕ → ℤ → ℤ → List FractionColumn
+abbrev pub column_between : List ℕ → ℤ → ℤ → List Column
 column_between name lo hi = (record { name = name; lo = whole lo; hi = whole hi }) ∷ []
 
 -- tables with nothing behind COLUMNS

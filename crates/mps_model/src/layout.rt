@@ -3,7 +3,7 @@
 /// How the fields of a data line are found.
 #[derive(Clone, Copy, Debug, PartialEq, Eq)]
 pub enum Layout {
-    /// A field is a longest run of bytes other than blank and tab.
+    /// Blanks and tabs stand between fields, and nowhere else.
     Free,
     /// A field is what stands in its columns of the line.
     Fixed,

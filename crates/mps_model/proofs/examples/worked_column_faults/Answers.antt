@@ -30,5 +30,6 @@ returns c = record {
   closes_nothing = refl;
   opens_twice = refl;
   short_marker = refl;
+  pairs_behind_a_mark = refl;
   too_many = refl;
 }

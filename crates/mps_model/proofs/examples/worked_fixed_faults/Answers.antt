@@ -16,11 +16,14 @@ pub returns : goal.returns
 unfolding gcd gcd_within frac whole ◌+ℚ◌ neg_ℚ pieces_of numbered fields_from digits_value decimal_with decimal_of value_of without_repeats stated means pairs_fault line_fault first_line_fault fault_at meaning
 returns c = record {
   first_field = refl;
+  row_with_a_third_field = refl;
   no_number = refl;
   half_a_pair = refl;
   not_read = refl;
   no_set_name = refl;
+  side_with_a_first_field = refl;
   short_marker = refl;
+  marker_with_a_fourth_field = refl;
   marker = refl;
   no_kind = refl;
   no_value = refl;

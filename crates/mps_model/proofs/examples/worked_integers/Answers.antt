@@ -19,4 +19,5 @@ returns c = record {
   between = refl;
   behind = refl;
   open_to_the_end = refl;
+  by_a_lower_bound = refl;
 }

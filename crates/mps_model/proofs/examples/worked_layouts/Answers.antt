@@ -20,5 +20,9 @@ returns c = record {
   blank_in_name = refl;
   blank_between_names = refl;
   split_fixed = refl;
+  split_fixed_as_free = refl;
   split_free = refl;
+  small_fixed = refl;
+  small_fields = refl;
+  small_free = refl;
 }

@@ -17,9 +17,12 @@ unfolding gcd gcd_within frac whole ◌+ℚ◌ neg_ℚ pieces_of numbered fields
 returns c = record {
   long_comment = refl;
   longest_comment = refl;
+  long_blank_line = refl;
   byte = refl;
+  delete_byte = refl;
   byte_in_comment = refl;
   tab = refl;
   tab_in_free_form = refl;
+  tab_begins_data = refl;
   out_of_columns = refl;
 }

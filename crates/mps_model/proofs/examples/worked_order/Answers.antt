@@ -19,6 +19,10 @@ returns c = record {
   length_before_byte = refl;
   duplicate_before_pairs = refl;
   first_pair = refl;
+  number_before_duplicate = refl;
   range_kind = refl;
+  wide_range_before_duplicate = refl;
   set_before_row = refl;
+  set_before_column = refl;
+  lower_before_upper = refl;
 }

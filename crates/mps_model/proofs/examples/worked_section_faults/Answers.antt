@@ -17,10 +17,15 @@ unfolding gcd gcd_within frac whole ◌+ℚ◌ neg_ℚ pieces_of numbered fields
 returns c = record {
   unknown = refl;
   out_of_order = refl;
+  columns_missing = refl;
+  columns_first = refl;
+  sides_behind_ranges = refl;
   twice = refl;
   either_order = refl;
+  no_line_of_sides = refl;
   data_before_rows = refl;
   more_fields = refl;
+  more_fields_at_the_end = refl;
   nothing = refl;
   cut_in_a_line = refl;
   cut_before_the_end = refl;

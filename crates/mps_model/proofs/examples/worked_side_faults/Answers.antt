@@ -16,13 +16,17 @@ pub returns : goal.returns
 unfolding gcd gcd_within frac whole ◌+ℚ◌ neg_ℚ pieces_of numbered fields_from digits_value decimal_with decimal_of value_of without_repeats stated means pairs_fault line_fault first_line_fault fault_at meaning
 returns c = record {
   one_field = refl;
+  two_pairs_without_a_set = refl;
   second_set = refl;
   same_set = refl;
   twice = refl;
   range_on_objective = refl;
+  range_on_a_later_free_row = refl;
   range_twice = refl;
   range_of_no_row = refl;
   range_is_no_number = refl;
   wide_side = refl;
   greatest_side = refl;
+  wide_first_alone = refl;
+  wide_second_alone = refl;
 }

@@ -22,6 +22,7 @@ returns c = record {
   equal_up = refl;
   equal_still = refl;
   at_most_ranged = refl;
+  at_most_ranged_above = refl;
   at_least_ranged = refl;
   faultless = refl;
 }

@@ -24,5 +24,6 @@ returns c = record {
   free_column = refl;
   free_above = refl;
   negative_upper = refl;
+  upper_zero = refl;
   lower_set = refl;
 }

@@ -1,0 +1,52 @@
+-- What the reader keeps of the lines of RHS, or of RANGES, above: the number of each row, and the set name of the first line.
+use Rattle.std.specs.Prelude.{◌≡◌, ℕ, ◌-◌, true, List, [], ◌∷◌, ◌++◌, length, map, replicate, slice_get, Option, Some, None, unwrap_or, IfSome}
+use Rattle.std.specs.Option.{option_copied}
+use Rattle.exact_math.specs.Rational.{ℚ}
+use Rattle.mps_model.specs.declared.fault.FaultKind.{FaultKind}
+use Rattle.mps_model.specs.declared.fault.FaultKind.TheVariants as faults
+use Rattle.mps_model.specs.declared.sides.SideTable.{SideTable}
+use Rattle.mps_model.specs.declared.row_sides.RowSides.{RowSides}
+use Rattle.mps_model.specs.Tables.{RowLine, Pair, PairLine}
+use Rattle.mps_model.specs.Sides.{Sides, zero_ℚ, number_beside, pairs_of, range_step, sum_fits}
+use Rattle.mps_model.specs.Rules.{first_holding}
+use Rattle.mps_model.specs.RowFaults.{row_names}
+use Rattle.mps_model.specs.PairFaults.{first_label, is_second_set}
+
+-- what is judged of a line before its pairs: its fields, and its set name beside the section's first one
+abbrev pub opening_fault : Option (List ℕ) → Option PairLine → Option FaultKind
+opening_fault first None = Some faults.FieldCount
+opening_fault first (Some line) = first_holding ((is_second_set first line.label, faults.SecondSet) ∷ [])
+
+-- the number at a place, if it has one
+abbrev pub number_in : List (Option ℚ) → ℕ → Option ℚ
+number_in numbers place = unwrap_or (slice_get numbers place) None
+
+-- the names of the rows in pairs
+abbrev pub names_in : List Pair → List (List ℕ)
+names_in pairs = map (λ pair. pair.name) pairs
+
+-- the numbers of the first places, and none for the places behind them
+abbrev pub padded : ℕ → List (Option ℚ) → List (Option ℚ)
+padded count numbers = numbers ++ replicate (count - length numbers) None
+
+-- the table has the number of each of these rows, and the first set name
+pub record KeepsPairs (names : List (List ℕ)) (lines : List PairLine) (table : SideTable) : Type 0 where
+  pub set : option_copied table.set ≡ first_label lines
+  pub numbers : padded (length names) table.numbers.items ≡ map (number_beside (pairs_of lines)) names
+
+-- the side of a row that lines of RHS give
+abbrev pub side_in : List PairLine → List ℕ → ℚ
+side_in sides name = unwrap_or (number_beside (pairs_of sides) name) zero_ℚ
+
+-- the side that a row's range makes, if it has a range in these pairs, is in the range of exact fractions
+abbrev pub HasNarrowRange : List PairLine → List Pair → RowLine → Type 0
+HasNarrowRange sides pairs row = IfSome (number_beside pairs row.name) (λ range. sum_fits (side_in sides row.name) (range_step row range) ≡ true)
+
+-- the table has the ranges of these rows, none of which makes a side that is too wide
+pub record KeepsRanges (rows : List RowLine) (sides ranges : List PairLine) (table : SideTable) : Type 0 where
+  pub pairs : KeepsPairs (row_names rows) ranges table
+  pub narrow : (place : ℕ) → IfSome (slice_get rows place) (HasNarrowRange sides (pairs_of ranges))
+
+-- the sides of a row in the code
+abbrev pub sides_view : RowSides → Sides
+sides_view sides = record { lo = sides.lo; hi = sides.hi }

@@ -1,0 +1,31 @@
+-- The six fields of a data line of the code, without where their texts lie in memory.
+use Rattle.std.specs.Prelude.{ℕ, List, [], Option, Some, None, option_map}
+use Rattle.std.specs.Borrow.{Bor}
+use Rattle.mps_model.specs.Places.{Fields, six, row_places, marker_places, column_places, set_places, value_places, bare_places}
+use Rattle.mps_model.specs.declared.places.Places.{Places}
+use Rattle.mps_model.specs.declared.places.Rule.{Rule}
+use Rattle.mps_model.specs.declared.places.Rule.TheVariants.{Row, Marker, Column, Set, Value, Bare}
+
+-- a text of the code
+abbrev pub text_of : Bor (List ℕ) → List ℕ
+text_of text = text.now
+
+-- six fields
+abbrev pub fields_view : Places → Fields
+fields_view p =
+    six (option_map text_of p.first) (option_map text_of p.second) (option_map text_of p.third)
+    (option_map text_of p.fourth) (option_map text_of p.fifth) (option_map text_of p.sixth)
+
+-- six fields, or none at all
+abbrev pub places_view : Option Places → Fields
+places_view None = []
+places_view (Some p) = fields_view p
+
+-- the places of a line's fields in free form
+abbrev pub rule_of : Rule → List (List ℕ) → Fields
+rule_of Row = row_places
+rule_of Marker = marker_places
+rule_of Column = column_places
+rule_of Set = set_places
+rule_of Value = value_places
+rule_of Bare = bare_places
