@@ -1,18 +1,16 @@
 -- From what the parts of a run answer to what the run answers.
-use Rattle.std.proofs.Common.{◌≡◌, ◌⊎◌, ⊎_elim, inl, inr, ◌≤◌, ℕ, ℤ, List, Option, Some, None, sym, ap, subst, ◌∙◌}
+use Rattle.std.proofs.Common.{◌≡◌, ◌⊎◌, ⊎_elim, inl, inr, ◌≤◌, ℕ, List, Option, Some, None, refl, sym, ap, subst, ◌∙◌}
 use Rattle.std.specs.Prelude.{option_map, IfSome}
 use Rattle.std.proofs.lemmas.Option.{same_Some, none-some}
-use Rattle.desk_io.specs.Desk.{fault, appended, AppendsSome, Same}
+use Rattle.desk_io.specs.Desk.{Rose, appended, AppendsSome, Same}
 use Rattle.desk_io.proofs.Appended.{appends_all}
 use Rattle.desk_io.proofs.Faults.{rose_after}
-use Rattle.int_model.specs.declared.model.Model.{Model}
-use Rattle.int_model.specs.Points.{IsPoint}
-use Rattle.first_form.specs.Stated.{stated}
 use Rattle.solve_cli.specs.declared.status.Status.{Status}
-use Rattle.solve_cli.specs.declared.status.Status.TheVariants.{Optimal, Infeasible, Words, Text, ReadFault, WriteFault, NoMemory}
+use Rattle.solve_cli.specs.declared.status.Status.TheVariants.{Optimal, Infeasible, Words, Text, TooLong, Large, ReadFault, WriteFault, NoMemory}
 use Rattle.solve_cli.specs.Words.{Solve, command_of}
 use Rattle.solve_cli.specs.Report.{report_of}
-use Rattle.solve_cli.specs.Answer.{Given, Faults, States, Reason, SaysSome, Answer, IsJudged, TakesInput, IsComplete}
+use Rattle.solve_cli.specs.Verdict.{Verdict}
+use Rattle.solve_cli.specs.Answer.{Given, Faults, JudgesText, Reason, SaysSome, Answer, IsJudged, TakesInput, Gives, IsComplete}
 use Rattle.solve_cli.specs.Solving.{IsSaid}
 
 -- ---- the answer
@@ -24,6 +22,8 @@ all_said given faults Optimal lines before after reason said = record { lines = 
 all_said given faults Infeasible lines before after reason said = record { lines = lines; reason = reason; said = said }
 all_said given faults Words lines before after reason said = record { lines = lines; reason = reason; said = said }
 all_said given faults (Text fault) lines before after reason said = record { lines = lines; reason = reason; said = said }
+all_said given faults (TooLong input) lines before after reason said = record { lines = lines; reason = reason; said = said }
+all_said given faults (Large part) lines before after reason said = record { lines = lines; reason = reason; said = said }
 all_said given faults ReadFault lines before after reason said = record { lines = lines; reason = reason; said = said }
 all_said given faults WriteFault lines before after reason said = absurd reason
 all_said given faults NoMemory lines before after reason said =
@@ -72,29 +72,40 @@ takes_said given status result report faults now before after left left_now take
 
 -- ---- completeness
 
-same_command : (words : List (List ℕ)) (one other : Solve) → command_of words ≡ Some one → command_of words ≡ Some other → one ≡ other
-same_command words one other p q = same_Some one other (sym p ∙ q)
+-- the verdict is on the text that the desk tells of the command's model
+module _ (given : Given) (status : Status) (lines : List (List ℕ)) (judges : JudgesText given status lines) where
+  no_none : {P : Type 0} → command_of given.words ≡ None → P
+  no_none none = absurd (none-some judges.command (sym none ∙ judges.spelled))
 
--- what is told of the command's model
-stated_is : (given : Given) (one other : Solve) (text : List ℕ) (found : Option Model) → command_of given.words ≡ Some one → command_of given.words ≡ Some other
-    → given.left other.model ≡ Some text → States given one found → stated text ≡ found
-stated_is given one other text found p q told states =
-    let at : given.left one.model ≡ Some text = ap (λ (c : Solve). given.left c.model) (same_command given.words one other p q) ∙ told in
-    subst (λ t. IfSome t (λ text. stated text ≡ found)) at states
+  gives : (command : Solve) (text : List ℕ) → command_of given.words ≡ Some command → given.left command.model ≡ Some text → Gives command.options text status
+  gives command text spelled told =
+      let same : judges.command ≡ command = same_Some judges.command command (sym judges.spelled ∙ spelled) in
+      let at : given.left judges.command.model ≡ Some text = ap (λ (c : Solve). given.left c.model) same ∙ told in
+      let text_is : text ≡ judges.text = subst (λ t. IfSome t (λ left. left ≡ judges.text)) at judges.told in
+      (lines, subst (λ (c : Solve). Verdict c.options text status lines) same (subst (λ t. Verdict judges.command.options t status lines) (sym text_is) judges.verdict))
+
+-- a status with a verdict is complete
+module _ (given : Given) (now : Faults) (status : Status) (lines : List (List ℕ)) (judges : JudgesText given status lines) where
+  judged_complete : IsComplete given now status
+  judged_complete = record {
+    no_command = λ none calm. no_none given status lines judges none;
+    text = λ command text spelled told calm. inl (gives given status lines judges command text spelled told);
+  }
+
+-- and so is each where a fault rose
+faulty_complete : (given : Given) (now : Faults) (status : Status) → Rose given.faults now.count → IsComplete given now status
+faulty_complete given now status rose = record { no_command = λ none calm. absurd (calm rose); text = λ command text spelled told calm. absurd (calm rose) }
 
 pub completes : (given : Given) (now : Faults) (before after : Option (List ℕ)) (status : Status) → Answer given now before after status → IsComplete given now status
-completes given now before after Optimal answer command text model spelled told stated_text calm =
-    let model_is : answer.reason.model ≡ model =
-    same_Some answer.reason.model model (sym (stated_is given answer.reason.command command text (Some answer.reason.model) answer.reason.spelled spelled told answer.reason.states) ∙ stated_text) in
-    subst (λ m. (x : List ℤ) × IsPoint m x) model_is (answer.reason.point, answer.reason.best.point)
-completes given now before after Infeasible answer command text model spelled told stated_text calm =
-    let model_is : answer.reason.model ≡ model =
-    same_Some answer.reason.model model (sym (stated_is given answer.reason.command command text (Some answer.reason.model) answer.reason.spelled spelled told answer.reason.states) ∙ stated_text) in
-    subst (λ m. (x : List ℤ) → IsPoint m x → ⊥) model_is answer.reason.none
-completes given now before after Words answer command text model spelled told stated_text calm = none-some command (sym answer.reason.0 ∙ spelled)
-completes given now before after (Text fault) answer command text model spelled told stated_text calm =
-    none-some model (sym (stated_is given answer.reason.command command text None answer.reason.spelled spelled told answer.reason.states) ∙ stated_text)
-completes given now before after ReadFault answer command text model spelled told stated_text calm = calm answer.reason.rose
-completes given now before after WriteFault answer command text model spelled told stated_text calm =
-    calm (rose_after given.faults answer.earlier.count now.count answer.later answer.rose)
-completes given now before after NoMemory answer command text model spelled told stated_text calm = tt
+completes given now before after Optimal answer = judged_complete given now Optimal answer.lines answer.reason
+completes given now before after Infeasible answer = judged_complete given now Infeasible answer.lines answer.reason
+completes given now before after (Text fault) answer = judged_complete given now (Text fault) answer.lines answer.reason
+completes given now before after (TooLong input) answer = judged_complete given now (TooLong input) answer.lines answer.reason
+completes given now before after (Large part) answer = judged_complete given now (Large part) answer.lines answer.reason
+completes given now before after Words answer = record {
+  no_command = λ none calm. inl refl;
+  text = λ command text spelled told calm. absurd (none-some command (sym answer.reason.0 ∙ spelled));
+}
+completes given now before after ReadFault answer = faulty_complete given now ReadFault answer.reason.rose
+completes given now before after WriteFault answer = faulty_complete given now WriteFault (rose_after given.faults answer.earlier.count now.count answer.later answer.rose)
+completes given now before after NoMemory answer = record { no_command = λ none calm. inr refl; text = λ command text spelled told calm. inr refl }

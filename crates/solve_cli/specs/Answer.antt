@@ -1,16 +1,14 @@
 -- When a run answers which status, and what it says then.
-use Rattle.std.specs.Prelude.{◌≡◌, ◌≤◌, ℕ, List, [], ◌∷◌, drop, ℤ, Option, Some, None, option_map, IfSome}
+use Rattle.std.specs.Prelude.{◌≡◌, ◌⊎◌, ◌≤◌, ℕ, List, [], ◌∷◌, drop, codes, Option, Some, None, option_map, IfSome}
 use Rattle.desk_io.specs.Desk.{Fault, fault, appended, AppendsSome, Same, SameButAt, Rose}
 use Rattle.desk_io.specs.declared.desk.Call.TheVariants.{Take, Say}
-use Rattle.int_model.specs.declared.model.Model.{Model}
-use Rattle.int_model.specs.Points.{IsPoint, IsBest, value_at}
-use Rattle.first_form.specs.Stated.{stated}
-use Rattle.solve_cli.specs.declared.status.FaultKind.TheVariants.{Unbuilt}
-use Rattle.solve_cli.specs.declared.status.TextFault.{TextFault}
 use Rattle.solve_cli.specs.declared.status.Status.{Status}
-use Rattle.solve_cli.specs.declared.status.Status.TheVariants.{Optimal, Infeasible, Words, Text, ReadFault, WriteFault, NoMemory}
+use Rattle.solve_cli.specs.declared.status.Status.TheVariants.{Optimal, Infeasible, Words, Text, TooLong, Large, ReadFault, WriteFault, NoMemory}
+use Rattle.solve_cli.specs.declared.words.Options.{Options}
 use Rattle.solve_cli.specs.Words.{Solve, command_of}
-use Rattle.solve_cli.specs.Report.{report_of, optimal_lines, line_of}
+use Rattle.solve_cli.specs.Limits.{most_taken}
+use Rattle.solve_cli.specs.Report.{report_of}
+use Rattle.solve_cli.specs.Verdict.{Verdict}
 
 -- what a run was given: its words, what was left of each input, and how often the desk had failed
 pub record Given : Type 0 where
@@ -23,36 +21,14 @@ pub record Faults : Type 0 where
   pub count : ℕ
   pub last : Option Fault
 
--- the bytes that were left of MODEL, where the desk tells them, state this model, or none
-abbrev pub States : Given → Solve → Option Model → Type 0
-States given command found = IfSome (given.left command.model) (λ text. stated text ≡ found)
-
--- a best point was found, and its lines are to be said
-pub record FindsBest (given : Given) (lines : List (List ℕ)) : Type 0 where
+-- the words are a command, and under its options this is the verdict on the bytes that were left of MODEL: on those
+-- that the desk tells, or where it tells none on some bytes
+pub record JudgesText (given : Given) (status : Status) (lines : List (List ℕ)) : Type 0 where
   pub command : Solve
   pub spelled : command_of given.words ≡ Some command
-  pub model : Model
-  pub states : States given command (Some model)
-  pub point : List ℤ
-  pub best : IsBest model point
-  pub report : lines ≡ optimal_lines (value_at model point) model.columns point
-
--- the model has no point
-pub record FindsNone (given : Given) (lines : List (List ℕ)) : Type 0 where
-  pub command : Solve
-  pub spelled : command_of given.words ≡ Some command
-  pub model : Model
-  pub states : States given command (Some model)
-  pub none : (x : List ℤ) → IsPoint model x → ⊥
-  pub report : lines ≡ line_of Infeasible ∷ []
-
--- the text states no model
-pub record RefusesText (given : Given) (fault : TextFault) (lines : List (List ℕ)) : Type 0 where
-  pub command : Solve
-  pub spelled : command_of given.words ≡ Some command
-  pub states : States given command None
-  pub unbuilt : fault ≡ record { kind = Unbuilt; line = 0 }
-  pub report : lines ≡ line_of (Text fault) ∷ []
+  pub text : List ℕ
+  pub told : IfSome (given.left command.model) (λ left. left ≡ text)
+  pub verdict : Verdict command.options text status lines
 
 -- the desk failed in a take of MODEL
 pub record FailsToRead (given : Given) (faults : Faults) (lines : List (List ℕ)) : Type 0 where
@@ -60,17 +36,19 @@ pub record FailsToRead (given : Given) (faults : Faults) (lines : List (List ℕ
   pub spelled : command_of given.words ≡ Some command
   pub rose : Rose given.faults faults.count
   pub last : faults.last ≡ Some (fault Take command.model)
-  pub report : lines ≡ line_of ReadFault ∷ []
+  pub report : lines ≡ codes "READFAULT" ∷ []
 
 -- why a status may be answered, and the lines to be said then
 abbrev pub Reason : Given → Faults → Status → List (List ℕ) → Type 0
-Reason given faults Optimal lines = FindsBest given lines
-Reason given faults Infeasible lines = FindsNone given lines
-Reason given faults Words lines = (command_of given.words ≡ None) × (lines ≡ line_of Words ∷ [])
-Reason given faults (Text fault) lines = RefusesText given fault lines
+Reason given faults Optimal lines = JudgesText given Optimal lines
+Reason given faults Infeasible lines = JudgesText given Infeasible lines
+Reason given faults (Text fault) lines = JudgesText given (Text fault) lines
+Reason given faults (TooLong input) lines = JudgesText given (TooLong input) lines
+Reason given faults (Large part) lines = JudgesText given (Large part) lines
+Reason given faults Words lines = (command_of given.words ≡ None) × (lines ≡ codes "WORDS" ∷ [])
 Reason given faults ReadFault lines = FailsToRead given faults lines
 Reason given faults WriteFault lines = ⊥
-Reason given faults NoMemory lines = lines ≡ line_of NoMemory ∷ []
+Reason given faults NoMemory lines = lines ≡ codes "NOMEMORY" ∷ []
 
 -- the status has a reason, and its lines were said
 pub record SaysAll (given : Given) (faults : Faults) (status : Status) (before after : Option (List ℕ)) : Type 0 where
@@ -99,6 +77,8 @@ Answer given faults before after Optimal = SaysAll given faults Optimal before a
 Answer given faults before after Infeasible = SaysAll given faults Infeasible before after
 Answer given faults before after Words = SaysAll given faults Words before after
 Answer given faults before after (Text fault) = SaysAll given faults (Text fault) before after
+Answer given faults before after (TooLong input) = SaysAll given faults (TooLong input) before after
+Answer given faults before after (Large part) = SaysAll given faults (Large part) before after
 Answer given faults before after ReadFault = SaysAll given faults ReadFault before after
 Answer given faults before after WriteFault = FailsToSay given faults before after
 Answer given faults before after NoMemory = SaysSome given faults before after
@@ -108,6 +88,8 @@ abbrev pub IsJudged : Status → Type 0
 IsJudged Optimal = Unit {0}
 IsJudged Infeasible = Unit {0}
 IsJudged (Text fault) = Unit {0}
+IsJudged (TooLong input) = Unit {0}
+IsJudged (Large part) = Unit {0}
 IsJudged Words = ⊥
 IsJudged ReadFault = ⊥
 IsJudged WriteFault = ⊥
@@ -118,20 +100,15 @@ IsJudged NoMemory = ⊥
 pub record TakesInput (given : Given) (left : List ℕ → Option (List ℕ)) (status : Status) : Type 0 where
   pub no_command : command_of given.words ≡ None → Same given.left left
   pub others : (command : Solve) → command_of given.words ≡ Some command → SameButAt command.model given.left left
-  pub model : (command : Solve) → command_of given.words ≡ Some command → IsJudged status → left command.model ≡ option_map (drop 65537) (given.left command.model)
+  pub model : (command : Solve) → command_of given.words ≡ Some command → IsJudged status → left command.model ≡ option_map (drop most_taken) (given.left command.model)
 
--- Optimal where the model has a point, Infeasible where it has none, or want of memory
-abbrev pub Decides : Model → Status → Type 0
-Decides model Optimal = (x : List ℤ) × IsPoint model x
-Decides model Infeasible = (x : List ℤ) → IsPoint model x → ⊥
-Decides model NoMemory = Unit {0}
-Decides model Words = ⊥
-Decides model (Text fault) = ⊥
-Decides model ReadFault = ⊥
-Decides model WriteFault = ⊥
+-- the text gives this status
+abbrev pub Gives : Options → List ℕ → Status → Type 0
+Gives options text status = (lines : List (List ℕ)) × Verdict options text status lines
 
--- where the words are a command, the text states a model and no fault rises, the model is decided
-abbrev pub IsComplete : Given → Faults → Status → Type 0
-IsComplete given faults status =
-    (command : Solve) (text : List ℕ) (model : Model) → command_of given.words ≡ Some command → given.left command.model ≡ Some text
-    → stated text ≡ Some model → (Rose given.faults faults.count → ⊥) → Decides model status
+-- where no fault rises, words without a command give Words, and a command whose MODEL is told gives what the text gives;
+-- want of memory may come in place of either
+pub record IsComplete (given : Given) (faults : Faults) (status : Status) : Type 0 where
+  pub no_command : command_of given.words ≡ None → (Rose given.faults faults.count → ⊥) → (status ≡ Words) ⊎ (status ≡ NoMemory)
+  pub text : (command : Solve) (text : List ℕ) → command_of given.words ≡ Some command → given.left command.model ≡ Some text
+      → (Rose given.faults faults.count → ⊥) → Gives command.options text status ⊎ (status ≡ NoMemory)

@@ -7,7 +7,7 @@ use Rattle.solve_cli.specs.declared.words.WordsStop.TheVariants as stops
 use Rattle.solve_cli.specs.Words.{Solve}
 
 abbrev pub solve_view : Command → Solve
-solve_view (commands.Solve model proof) = record { model = model; proof = proof }
+solve_view (commands.Solve options model proof) = record { options = options; model = model; proof = proof }
 
 -- the command that is there, or Words where there is none, unless memory ran out
 abbrev pub GivesCommand : Result Command WordsStop → Option Solve → Type 0

@@ -3,5 +3,7 @@ pub mod Commands
 pub mod Codes
 pub mod Taking
 pub mod Report
+pub mod Limits
+pub mod Verdict
 pub mod Answer
 pub mod Solving

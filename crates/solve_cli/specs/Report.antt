@@ -1,15 +1,24 @@
 -- The report that a run says: lines, each of which ends with a line feed (the byte 10).
-use Rattle.std.specs.Prelude.{ℕ, List, [], ◌∷◌, ◌++◌, ℤ, codes, flat_map, decimal}
+use Rattle.std.specs.Prelude.{ℕ, ◌<◌, ◌==◌, if◌then◌else◌, List, [], ◌∷◌, ◌++◌, length, slice_get, ℤ, codes, flat_map, decimal}
+use Rattle.std.specs.Option.{option_map_or}
 use Rattle.std.specs.Fmt.{signed_decimal}
+use Rattle.exact_math.specs.Rational.{ℚ}
 use Rattle.int_model.specs.declared.model.Column.{Column}
-use Rattle.solve_cli.specs.declared.status.FaultKind.{FaultKind}
-use Rattle.solve_cli.specs.declared.status.FaultKind.TheVariants.{Unbuilt}
-use Rattle.solve_cli.specs.declared.status.Status.{Status}
-use Rattle.solve_cli.specs.declared.status.Status.TheVariants.{Optimal, Infeasible, Words, Text, ReadFault, WriteFault, NoMemory}
+use Rattle.int_model.specs.declared.model.Row.{Row}
+use Rattle.int_model.specs.declared.model.Model.{Model}
+use Rattle.int_model.specs.declared.part.Part.{Part}
+use Rattle.int_model.specs.declared.part.Part.TheVariants as parts
+use Rattle.mps_model.specs.declared.fault.FaultKind.{FaultKind}
+use Rattle.mps_model.specs.declared.fault.FaultKind.TheVariants as faults
+use Rattle.mps_model.specs.declared.fault.TextFault.{TextFault}
 
 -- the lines as one text
 abbrev pub report_of : List (List ℕ) → List ℕ
 report_of lines = flat_map (λ line. line ++ 10 ∷ []) lines
+
+-- a whole number in decimal digits, any other as its numerator and its denominator, with a stroke (the byte 47) between them
+abbrev pub fraction_text : ℚ → List ℕ
+fraction_text q = if q.den == 1 then signed_decimal q.num else signed_decimal q.num ++ 47 ∷ decimal q.den
 
 -- a line for each column: its value and its name
 abbrev pub point_lines : List Column → List ℤ → List (List ℕ)
@@ -19,18 +28,54 @@ point_lines (column ∷ columns) (value ∷ values) =
     (codes "POINT " ++ signed_decimal value ++ 32 ∷ column.name) ∷ point_lines columns values
 
 -- a best point and its value
-abbrev pub optimal_lines : ℤ → List Column → List ℤ → List (List ℕ)
-optimal_lines value columns point = codes "OPTIMAL" ∷ (codes "VALUE " ++ signed_decimal value) ∷ point_lines columns point
+abbrev pub optimal_lines : ℚ → List Column → List ℤ → List (List ℕ)
+optimal_lines value columns point = codes "OPTIMAL" ∷ (codes "VALUE " ++ fraction_text value) ∷ point_lines columns point
 
+-- the name of column number j
+abbrev pub column_name : Model → ℕ → List ℕ
+column_name model j = option_map_or (λ (column : Column). column.name) (slice_get model.columns j) []
+
+-- the name of row number i
+abbrev pub row_name : Model → ℕ → List ℕ
+row_name model i = option_map_or (λ (row : Row). row.name) (slice_get model.rows i) []
+
+-- the line of a part that is too large
+abbrev pub limit_line : Model → Part → List ℕ
+limit_line model (parts.Column j) = codes "LIMIT COLUMN " ++ column_name model j
+limit_line model (parts.Row i) = codes "LIMIT ROW " ++ row_name model i
+limit_line model parts.Objective = codes "LIMIT OBJECTIVE"
+
+-- the part is one of the model's
+abbrev pub IsPartOf : Model → Part → Type 0
+IsPartOf model (parts.Column j) = j < length model.columns
+IsPartOf model (parts.Row i) = i < length model.rows
+IsPartOf model parts.Objective = Unit {0}
+
+-- the name that is printed for a kind of fault
 abbrev pub name_of : FaultKind → List ℕ
-name_of Unbuilt = codes "Unbuilt"
+name_of faults.Byte = codes "Byte"
+name_of faults.LongLine = codes "LongLine"
+name_of faults.Section = codes "Section"
+name_of faults.FieldCount = codes "FieldCount"
+name_of faults.RowKind = codes "RowKind"
+name_of faults.Duplicate = codes "Duplicate"
+name_of faults.UnknownRow = codes "UnknownRow"
+name_of faults.UnknownColumn = codes "UnknownColumn"
+name_of faults.NotNumber = codes "NotNumber"
+name_of faults.WideNumber = codes "WideNumber"
+name_of faults.Marker = codes "Marker"
+name_of faults.BoundKind = codes "BoundKind"
+name_of faults.SecondSet = codes "SecondSet"
+name_of faults.RangeOnObjective = codes "RangeOnObjective"
+name_of faults.Continuous = codes "Continuous"
+name_of faults.NoUpper = codes "NoUpper"
+name_of faults.NoLower = codes "NoLower"
+name_of faults.NegativeUpper = codes "NegativeUpper"
+name_of faults.TooManyRows = codes "TooManyRows"
+name_of faults.TooManyColumns = codes "TooManyColumns"
+name_of faults.NoEnd = codes "NoEnd"
+name_of faults.Unbuilt = codes "Unbuilt"
 
--- the one line of a status without a point
-abbrev pub line_of : Status → List ℕ
-line_of Optimal = codes "OPTIMAL"
-line_of Infeasible = codes "INFEASIBLE"
-line_of Words = codes "WORDS"
-line_of (Text fault) = codes "TEXT " ++ name_of fault.kind ++ 32 ∷ decimal fault.line
-line_of ReadFault = codes "READFAULT"
-line_of WriteFault = []
-line_of NoMemory = codes "NOMEMORY"
+-- the line of a fault: its kind and the number of its line
+abbrev pub text_line : TextFault → List ℕ
+text_line fault = codes "TEXT " ++ name_of fault.kind ++ 32 ∷ decimal fault.line

@@ -5,11 +5,15 @@ mod program;
 mod report;
 mod status;
 mod take;
+mod verdict_law;
 mod words;
+mod words_law;
 
 pub use program::run;
-pub use status::{FaultKind, Status, TextFault};
-pub use words::{Command, FileName, WordsStop, read_words};
+pub use status::{Input, Status};
+pub use verdict_law::one_status_is_given;
+pub use words::{Command, FileName, Options, WordsStop, read_words};
+pub use words_law::command_is_spelled;
 
 #[cfg(test)]
 mod tests;

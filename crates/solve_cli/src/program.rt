@@ -1,18 +1,21 @@
 //! The run of the program.
-ghost use Rattle.std.specs.Prelude.{◌≡◌, ◌≤◌, ℕ, ◌∷◌, [], List, Some, drop, map, option_map, IfOk, MatchResult, string_bytes};
+ghost use Rattle.std.specs.Prelude.{◌≡◌, ◌≤◌, ℕ, ◌∷◌, [], List, pos, ◌≤ℤ◌, Some, drop, map, option_map, IfSome, IfOk, MatchResult, string_bytes};
 ghost use Rattle.desk_io.specs.Desk.{Same, SameButAt};
+ghost use Rattle.mps_model.specs.ModelLimits.{KeepsLimits};
 ghost use Rattle.solve_cli.specs.Words.{Solve, command_of};
-ghost use Rattle.solve_cli.specs.Report.{report_of, line_of};
-ghost use Rattle.solve_cli.specs.Answer.{Answer, IsJudged, TakesInput, IsComplete};
-ghost use Rattle.solve_cli.specs.Solving.{SolvesTo, HasReason, IsSaid};
+ghost use Rattle.solve_cli.specs.Limits.{most_taken};
+ghost use Rattle.solve_cli.specs.Report.{report_of, limit_line, IsPartOf, text_line};
+ghost use Rattle.solve_cli.specs.Verdict.{Solves, Verdict};
+ghost use Rattle.solve_cli.specs.Answer.{Answer, Reason, IsJudged, TakesInput, IsComplete};
+ghost use Rattle.solve_cli.specs.Solving.{Replies, IsSaid};
 
-use crate::report::{optimal_report, short_report};
-use crate::status::{FaultKind, Status, TextFault};
-use crate::take::{TakeStop, take_text};
-use crate::words::{Command, FileName, WordsStop, read_words};
+use crate::report::{limit_report, line_report, optimal_report, text_report};
+use crate::status::{Input, Status};
+use crate::take::{MOST_TEXT_BYTES, TakeStop, take_text};
+use crate::words::{Command, FileName, Options, WordsStop, read_words};
 use desk_io::{Desk, DeskStop};
-use first_form::{ReadStop, read};
-use int_model::IntRows;
+use int_model::{IntRows, Model, Part, RowsStop};
+use mps_model::{FaultKind, ReadStop, TextFault, read};
 use plain_slices::plain_point;
 use sequence::NoMemory;
 use std::alloc::Global;
@@ -24,65 +27,115 @@ struct Reply {
     report: Vec<u8>,
 }
 
+/// The answer to a model with an objective, which is not searched yet.
 const UNBUILT: TextFault = TextFault {
     kind: FaultKind::Unbuilt,
     line: 0,
 };
 
-// The reply of a status without a point.
-fn short_reply(alloc: Global, status: Status) -> Result<Reply, NoMemory>
+// The reply of a status with one line.
+fn line_reply(alloc: Global, status: Status, line: &[u8]) -> Result<Reply, NoMemory>
     ensures status { IfOk result (λ reply. reply.status ≡ status) }
-    ensures report { IfOk result (λ reply. reply.report.items ≡ report_of (line_of status ∷ [])) }
+    ensures report { IfOk result (λ reply. reply.report.items ≡ report_of (line.now ∷ [])) }
 {
     Ok(Reply {
         status,
-        report: short_report(alloc, status)?,
+        report: line_report(alloc, line)?,
     })
 }
 
-// Solves the model that a text states.
-fn solve(alloc: Global, text: &[u8]) -> Result<Reply, NoMemory>
-    ensures { IfOk result (SolvesTo text.now) }
+// The reply to a text with a fault.
+fn text_reply(alloc: Global, fault: TextFault) -> Result<Reply, NoMemory>
+    ensures status { IfOk result (λ reply. reply.status ≡ Status.Text fault) }
+    ensures report { IfOk result (λ reply. reply.report.items ≡ report_of (text_line fault ∷ [])) }
 {
-    let model = match read(alloc, text) {
-        Ok(model) => model,
-        Err(ReadStop::Unbuilt) => return short_reply(alloc, Status::Text(UNBUILT)),
-        Err(ReadStop::NoMemory) => return Err(NoMemory),
+    Ok(Reply {
+        status: Status::Text(fault),
+        report: text_report(alloc, fault)?,
+    })
+}
+
+// The reply to a model of which a part is too large.
+fn limit_reply(alloc: Global, model: &Model, part: Part) -> Result<Reply, NoMemory>
+    requires { IsPartOf model.now part }
+    ensures status { IfOk result (λ reply. reply.status ≡ Status.Large part) }
+    ensures report { IfOk result (λ reply. reply.report.items ≡ report_of (limit_line model.now part ∷ [])) }
+{
+    Ok(Reply {
+        status: Status::Large(part),
+        report: limit_report(alloc, model, part)?,
+    })
+}
+
+// Searches a model without an objective.
+fn search(alloc: Global, model: &Model) -> Result<Reply, NoMemory>
+    requires limits { KeepsLimits model.now }
+    requires plain { model.now.objective ≡ [] }
+    ensures { IfOk result (Replies (Solves model.now)) }
+{
+    let rows = match IntRows::of(alloc, model) {
+        Ok(rows) => rows,
+        Err(RowsStop::Large(part)) => return limit_reply(alloc, model, part),
+        Err(RowsStop::NoMemory) => return Err(NoMemory),
     };
-    let rows = IntRows::of(alloc, &model)?;
     let Some(point) = plain_point(alloc, &rows)? else {
-        return short_reply(alloc, Status::Infeasible);
+        return line_reply(alloc, Status::Infeasible, b"INFEASIBLE");
     };
-    let report = optimal_report(alloc, model.constant, model.columns.items(), &point)?;
+    let value = rows.value(&point);
     Ok(Reply {
         status: Status::Optimal,
-        report,
+        report: optimal_report(alloc, &value, model.columns.items(), &point)?,
     })
+}
+
+// Judges a text, and searches the model that it states.
+fn solve(alloc: Global, options: Options, text: &[u8]) -> Result<Reply, NoMemory>
+    requires { IfSome options.upper (λ bound. pos 0 ≤ℤ bound) }
+    ensures { IfOk result (Replies (Verdict options text.now)) }
+{
+    if text.len() > MOST_TEXT_BYTES {
+        return line_reply(alloc, Status::TooLong(Input::ModelText), b"LIMIT MODEL");
+    }
+    let model = match read(alloc, options.layout, options.upper, text) {
+        Ok(model) => model,
+        Err(ReadStop::Fault(fault)) => return text_reply(alloc, fault),
+        Err(ReadStop::NoMemory) => return Err(NoMemory),
+    };
+    if !model.objective.items().is_empty() {
+        return text_reply(alloc, UNBUILT);
+    }
+    search(alloc, &model)
 }
 
 // Takes the text of the model from the desk, and solves the model that it states.
-fn solve_file<D: Desk>(alloc: Global, model: &FileName, desk: &mut D) -> Result<Reply, NoMemory>
-    ensures reason { (words : List (List ℕ)) (command : Solve) → command_of words ≡ Some command → command.model ≡ model.now → IfOk result (HasReason
+fn solve_file<D: Desk>(
+    alloc: Global,
+    options: Options,
+    model: &FileName,
+    desk: &mut D,
+) -> Result<Reply, NoMemory>
+    requires { IfSome options.upper (λ bound. pos 0 ≤ℤ bound) }
+    ensures reason { (words : List (List ℕ)) (command : Solve) → command_of words ≡ Some command → command.options ≡ options → command.model ≡ model.now → IfOk result (Replies (Reason
         (record { words = words; left = D.left desk.old; faults = D.faults desk.old })
-        (record { count = D.faults desk.new; last = D.fault_at desk.new })) }
+        (record { count = D.faults desk.new; last = D.fault_at desk.new }))) }
     ensures others { SameButAt model.now (D.left desk.old) (D.left desk.new) }
-    ensures taken { IfOk result (λ reply. IsJudged reply.status → D.left desk.new model.now ≡ option_map (drop 65537) (D.left desk.old model.now)) }
+    ensures taken { IfOk result (λ reply. IsJudged reply.status → D.left desk.new model.now ≡ option_map (drop most_taken) (D.left desk.old model.now)) }
     ensures outputs { Same (D.written desk.old) (D.written desk.new) }
     ensures said { D.said desk.new ≡ D.said desk.old }
     ensures later { D.faults desk.old ≤ D.faults desk.new }
 {
     match take_text(alloc, desk, model.text()) {
-        Ok(text) => solve(alloc, &text),
-        Err(TakeStop::Failed) => short_reply(alloc, Status::ReadFault),
+        Ok(text) => solve(alloc, options, &text),
+        Err(TakeStop::Failed) => line_reply(alloc, Status::ReadFault, b"READFAULT"),
         Err(TakeStop::NoMemory) => Err(NoMemory),
     }
 }
 
 // What is to be said to the words.
 fn reply_to<D: Desk>(alloc: Global, words: &Vec<String>, desk: &mut D) -> Result<Reply, NoMemory>
-    ensures reason { IfOk result (HasReason
+    ensures reason { IfOk result (Replies (Reason
         (record { words = map string_bytes words.now.items; left = D.left desk.old; faults = D.faults desk.old })
-        (record { count = D.faults desk.new; last = D.fault_at desk.new })) }
+        (record { count = D.faults desk.new; last = D.fault_at desk.new }))) }
     ensures inputs { MatchResult result
         (λ reply. TakesInput (record { words = map string_bytes words.now.items; left = D.left desk.old; faults = D.faults desk.old }) (D.left desk.new) reply.status)
         (λ _. TakesInput (record { words = map string_bytes words.now.items; left = D.left desk.old; faults = D.faults desk.old }) (D.left desk.new) Status.NoMemory) }
@@ -92,11 +145,11 @@ fn reply_to<D: Desk>(alloc: Global, words: &Vec<String>, desk: &mut D) -> Result
 {
     let command = match read_words(alloc, words) {
         Ok(command) => command,
-        Err(WordsStop::Words) => return short_reply(alloc, Status::Words),
+        Err(WordsStop::Words) => return line_reply(alloc, Status::Words, b"WORDS"),
         Err(WordsStop::NoMemory) => return Err(NoMemory),
     };
     match command {
-        Command::Solve { model, .. } => solve_file(alloc, &model, desk),
+        Command::Solve { options, model, .. } => solve_file(alloc, options, &model, desk),
     }
 }
 
@@ -123,7 +176,7 @@ pub fn run<D: Desk>(alloc: Global, words: &Vec<String>, desk: &mut D) -> Status
         (record { count = D.faults desk.new; last = D.fault_at desk.new })
         (D.said desk.old) (D.said desk.new) result }
 
-    // The model is decided, unless a fault rises or memory runs out.
+    // The words and the text of the model decide the status, unless a fault rises or memory runs out.
     ensures complete { IsComplete
         (record { words = map string_bytes words.now.items; left = D.left desk.old; faults = D.faults desk.old })
         (record { count = D.faults desk.new; last = D.fault_at desk.new }) result }

@@ -1,11 +1,12 @@
 //! The report of a run.
 ghost use Rattle.std.specs.Prelude.{◌≡◌, ◌++◌, ◌∷◌, [], pos, IfOk, OnOk, decimal};
 ghost use Rattle.std.specs.Fmt.{signed_decimal};
-ghost use Rattle.solve_cli.specs.Report.{report_of, point_lines, optimal_lines, line_of, name_of};
+ghost use Rattle.solve_cli.specs.Report.{report_of, fraction_text, point_lines, optimal_lines, limit_line, IsPartOf, text_line, name_of};
 
-use crate::status::{FaultKind, Status, TextFault};
-use int_model::Column;
+use frac128::Frac;
+use int_model::{Column, Model, Part};
 use itoa::Buffer;
+use mps_model::{FaultKind, TextFault};
 use sequence::NoMemory;
 use std::alloc::Global;
 
@@ -24,6 +25,19 @@ fn put_number(text: &mut Vec<u8>, number: i128) -> Result<(), NoMemory>
 {
     let mut buffer = Buffer::new();
     text.extend_from_slice(buffer.format(number).as_bytes())?;
+    Ok(())
+}
+
+// Puts the fraction at the end: a whole number in digits, any other as two numbers.
+fn put_fraction(text: &mut Vec<u8>, fraction: &Frac) -> Result<(), NoMemory>
+    ensures { OnOk result (text.new.items ≡ text.old.items ++ fraction_text fraction.now) }
+{
+    put_number(text, fraction.num())?;
+    let denominator = fraction.den();
+    if denominator != 1 {
+        text.push(b'/')?;
+        put_number(text, denominator)?;
+    }
     Ok(())
 }
 
@@ -50,54 +64,95 @@ fn put_points(text: &mut Vec<u8>, columns: &[Column], point: &[i128]) -> Result<
 /// The report of a best point and its value: a line for each column.
 pub(crate) fn optimal_report(
     alloc: Global,
-    value: i128,
+    value: &Frac,
     columns: &[Column],
     point: &[i128],
 ) -> Result<Vec<u8>, NoMemory>
-    ensures { IfOk result (λ text. text.items ≡ report_of (optimal_lines value columns.now point.now)) }
+    ensures { IfOk result (λ text. text.items ≡ report_of (optimal_lines value.now columns.now point.now)) }
 {
     let mut text = Vec::new(alloc);
     put_line(&mut text, b"OPTIMAL")?;
     text.extend_from_slice(b"VALUE ")?;
-    put_number(&mut text, value)?;
+    put_fraction(&mut text, value)?;
     put_line(&mut text, b"")?;
     put_points(&mut text, columns, point)?;
     Ok(text)
 }
 
+/// The report of one line.
+pub(crate) fn line_report(alloc: Global, line: &[u8]) -> Result<Vec<u8>, NoMemory>
+    ensures { IfOk result (λ text. text.items ≡ report_of (line.now ∷ [])) }
+{
+    let mut text = Vec::new(alloc);
+    put_line(&mut text, line)?;
+    Ok(text)
+}
+
+// The report of one line that ends with a name.
+fn name_report(alloc: Global, front: &[u8], name: &[u8]) -> Result<Vec<u8>, NoMemory>
+    ensures { IfOk result (λ text. text.items ≡ report_of ((front.now ++ name.now) ∷ [])) }
+{
+    let mut text = Vec::from_slice(alloc, front)?;
+    put_line(&mut text, name)?;
+    Ok(text)
+}
+
+/// The report of a model of which a part is too large.
+pub(crate) fn limit_report(alloc: Global, model: &Model, part: Part) -> Result<Vec<u8>, NoMemory>
+    requires { IsPartOf model.now part }
+    ensures { IfOk result (λ text. text.items ≡ report_of (limit_line model.now part ∷ [])) }
+{
+    match part {
+        Part::Column(j) => {
+            let column = &model.columns.items()[j as usize];
+            name_report(alloc, b"LIMIT COLUMN ", column.name.items())
+        }
+        Part::Row(i) => {
+            let row = &model.rows.items()[i as usize];
+            name_report(alloc, b"LIMIT ROW ", row.name.items())
+        }
+        Part::Objective => line_report(alloc, b"LIMIT OBJECTIVE"),
+    }
+}
+
+// The name that is printed for a kind of fault.
 fn kind_name(kind: FaultKind) -> &'static str
     ensures { result.now ≡ name_of kind }
 {
     match kind {
+        FaultKind::Byte => "Byte",
+        FaultKind::LongLine => "LongLine",
+        FaultKind::Section => "Section",
+        FaultKind::FieldCount => "FieldCount",
+        FaultKind::RowKind => "RowKind",
+        FaultKind::Duplicate => "Duplicate",
+        FaultKind::UnknownRow => "UnknownRow",
+        FaultKind::UnknownColumn => "UnknownColumn",
+        FaultKind::NotNumber => "NotNumber",
+        FaultKind::WideNumber => "WideNumber",
+        FaultKind::Marker => "Marker",
+        FaultKind::BoundKind => "BoundKind",
+        FaultKind::SecondSet => "SecondSet",
+        FaultKind::RangeOnObjective => "RangeOnObjective",
+        FaultKind::Continuous => "Continuous",
+        FaultKind::NoUpper => "NoUpper",
+        FaultKind::NoLower => "NoLower",
+        FaultKind::NegativeUpper => "NegativeUpper",
+        FaultKind::TooManyRows => "TooManyRows",
+        FaultKind::TooManyColumns => "TooManyColumns",
+        FaultKind::NoEnd => "NoEnd",
         FaultKind::Unbuilt => "Unbuilt",
     }
 }
 
-fn text_report(alloc: Global, fault: TextFault) -> Result<Vec<u8>, NoMemory>
-    ensures { IfOk result (λ text. text.items ≡ report_of (line_of (Status.Text fault) ∷ [])) }
+/// The report of a text with a fault: its kind and the number of its line.
+pub(crate) fn text_report(alloc: Global, fault: TextFault) -> Result<Vec<u8>, NoMemory>
+    ensures { IfOk result (λ text. text.items ≡ report_of (text_line fault ∷ [])) }
 {
     let mut text = Vec::from_slice(alloc, b"TEXT ")?;
     text.extend_from_slice(kind_name(fault.kind).as_bytes())?;
     text.push(b' ')?;
     let mut buffer = Buffer::new();
     put_line(&mut text, buffer.format(fault.line).as_bytes())?;
-    Ok(text)
-}
-
-/// The report of a status in its one line. A best point has more lines, and the line of WriteFault is empty and never said.
-pub(crate) fn short_report(alloc: Global, status: Status) -> Result<Vec<u8>, NoMemory>
-    ensures { IfOk result (λ text. text.items ≡ report_of (line_of status ∷ [])) }
-{
-    let line: &[u8] = match status {
-        Status::Text(fault) => return text_report(alloc, fault),
-        Status::Optimal => b"OPTIMAL",
-        Status::Infeasible => b"INFEASIBLE",
-        Status::Words => b"WORDS",
-        Status::ReadFault => b"READFAULT",
-        Status::WriteFault => b"",
-        Status::NoMemory => b"NOMEMORY",
-    };
-    let mut text = Vec::new(alloc);
-    put_line(&mut text, line)?;
     Ok(text)
 }

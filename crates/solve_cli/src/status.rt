@@ -1,6 +1,16 @@
 //! What a run answers.
 ghost use Rattle.std.specs.Prelude.{◌≡◌};
 
+use int_model::Part;
+use mps_model::TextFault;
+
+/// An input of a run.
+#[derive(Clone, Copy, Debug, Drop, PartialEq, Eq)]
+pub enum Input {
+    /// The text of the model.
+    ModelText,
+}
+
 /// What a run answers.
 #[derive(Clone, Copy, Debug, Drop, PartialEq, Eq)]
 pub enum Status {
@@ -10,28 +20,18 @@ pub enum Status {
     Infeasible,
     /// The words are no command.
     Words,
-    /// The text states no model.
+    /// The text has this fault, or, with the kind Unbuilt and line 0, states a model that is not searched yet.
     Text(TextFault),
+    /// The input has more bytes than it may have.
+    TooLong(Input),
+    /// This part of the model is too large to be worked with in 128 bits.
+    Large(Part),
     /// The desk failed in a take of an input.
     ReadFault,
     /// The desk failed in a say or a put.
     WriteFault,
     /// No memory was left.
     NoMemory,
-}
-
-/// What is wrong with a text, and in which line, from 1; a fault of the whole text has line 0.
-#[derive(Clone, Copy, Debug, Drop, PartialEq, Eq)]
-pub struct TextFault {
-    pub kind: FaultKind,
-    pub line: u32,
-}
-
-/// What is wrong with a text.
-#[derive(Clone, Copy, Debug, Drop, PartialEq, Eq)]
-pub enum FaultKind {
-    /// The text is not in the form that is read by now.
-    Unbuilt,
 }
 
 impl Status {
@@ -46,6 +46,7 @@ impl Status {
             Status::Infeasible => 1,
             Status::Words => 3,
             Status::Text(_) => 4,
+            Status::TooLong(_) | Status::Large(_) => 5,
             Status::ReadFault => 6,
             Status::WriteFault => 7,
             Status::NoMemory => 8,

@@ -2,14 +2,18 @@
 ghost use Rattle.std.specs.Prelude.{◌≡◌, ◌≤◌, take, drop, length, option_map, IfOk, OnOk, IfSome, IsErrOf};
 ghost use Rattle.desk_io.specs.Desk.{fault, Same, SameButAt};
 ghost use Rattle.desk_io.specs.declared.desk.Call.TheVariants.{Take};
+ghost use Rattle.solve_cli.specs.Limits.{most_taken};
 ghost use Rattle.solve_cli.specs.Taking.{IsReadFault, IsUnmoved};
 ghost use Rattle.solve_cli.specs.declared.take.TakeStop.TheVariants.{Failed as failed, NoMemory as no_memory};
 
 use desk_io::{Desk, Failed};
 use std::alloc::{AllocError, Global};
 
-/// One more than the greatest number of bytes of a text: enough to see that a text is too long.
-const TAKEN_BYTES: usize = 65_537;
+/// The greatest number of bytes of a text.
+pub(crate) const MOST_TEXT_BYTES: usize = 16_777_216;
+
+/// One more: enough to see that a text is too long.
+const TAKEN_BYTES: usize = 16_777_217;
 
 const PIECE_BYTES: usize = 4_096;
 
@@ -36,15 +40,15 @@ impl From<AllocError> for TakeStop {
     }
 }
 
-/// Takes an input to its end, or its first 65,537 bytes.
+/// Takes an input to its end, or its first 16,777,217 bytes.
 pub(crate) fn take_text<D: Desk>(
     alloc: Global,
     desk: &mut D,
     name: &str,
 ) -> Result<Vec<u8>, TakeStop>
     requires { length name.now ≤ 255 }
-    ensures text { IfOk result (λ text. IfSome (D.left desk.old name.now) (λ left. text.items ≡ take 65537 left)) }
-    ensures left { OnOk result (D.left desk.new name.now ≡ option_map (drop 65537) (D.left desk.old name.now)) }
+    ensures text { IfOk result (λ text. IfSome (D.left desk.old name.now) (λ left. text.items ≡ take most_taken left)) }
+    ensures left { OnOk result (D.left desk.new name.now ≡ option_map (drop most_taken) (D.left desk.old name.now)) }
     ensures others { SameButAt name.now (D.left desk.old) (D.left desk.new) }
     ensures outputs { Same (D.written desk.old) (D.written desk.new) }
     ensures said { D.said desk.new ≡ D.said desk.old }

@@ -1,10 +1,15 @@
 use super::*;
 use desk_io::MemDesk;
+use mps_model::Layout;
 use std::alloc::{AllocError, Global};
 use std::test::Fail;
 
 const TWO_COINS: &str =
     "NAME two coins\nROWS\n N cost\n E r\nCOLUMNS\n x r 3\n y r 5\nRHS\n r 8\nBOUNDS\n UI x 10\n UI y 10\nENDATA\n";
+
+// The last entry that sets a side counts.
+const TWO_COINS_AGAIN: &str =
+    "NAME two coins\nROWS\n N cost\n E r\nCOLUMNS\n x r 3\n y r 5\nRHS\n r 8\nBOUNDS\n UI x 0\n UI x 10\n UI y 10\n UI y 10\nENDATA\n";
 
 const TWO_COINS_UNREACHABLE: &str =
     "NAME two coins, unreachable\nROWS\n N cost\n E r\nCOLUMNS\n x r 3\n y r 5\nRHS\n r 7\nBOUNDS\n UI x 10\n UI y 10\nENDATA\n";
@@ -12,10 +17,32 @@ const TWO_COINS_UNREACHABLE: &str =
 const EVEN_SUM: &str =
     "NAME even sum\nROWS\n N cost\n E r\nCOLUMNS\n x r 2\n y r 4\nRHS\n r 7\nBOUNDS\n UI x 10\n UI y 10\nENDATA\n";
 
+// The row weighs exactly 2^96.
+const HEAVY: &str =
+    "NAME heavy\nROWS\n L r\nCOLUMNS\n x r 1\nRHS\n r 79228162514264337593543950335\nBOUNDS\n BV x\nENDATA\n";
+
 const EMPTY: &str = "NAME\nROWS\nCOLUMNS\nENDATA\n";
 
 const PARITY_PAIR: &str =
     "NAME parity pair\nROWS\n E a\n E b\nCOLUMNS\n x a 1 b 1\n y a 1 b -1\nRHS\n a 1\nBOUNDS\n BV x\n BV y\nENDATA\n";
+
+const THIN_TRIANGLE: &str =
+    "NAME thin triangle\nROWS\n G a\n G b\n L c\nCOLUMNS\n x a 10 b 1\n x c 10\n y a 1 b 10\n y c 11\nRHS\n a 2 b 2\n c 19\nBOUNDS\n UI x 2\n UI y 2\nENDATA\n";
+
+const TWO_CONSTRAINTS: &str =
+    "NAME two constraints\nROWS\n N cost\n L a\n L b\nCOLUMNS\n x cost -5 a 6\n x b 1\n y cost -4 a 4\n y b 2\nRHS\n a 24 b 6\nBOUNDS\n UI x 10\n UI y 10\nENDATA\n";
+
+const PRICED: &str =
+    "NAME priced\nROWS\n N c\nCOLUMNS\n M1 'MARKER' 'INTORG'\n x c 1\n M2 'MARKER' 'INTEND'\nENDATA\n";
+
+const RANGED: &str =
+    "NAME ranged\nROWS\n N c\n E r\nCOLUMNS\n x c 1 r 1\nRHS\n r 5\nRANGES\n r -3\nBOUNDS\n UI x 9\nENDATA\n";
+
+const SPLIT_FREE: &str =
+    "NAME SLICER\nROWS\n N COST\n E R1\n E R2\nCOLUMNS\n X1 R1 71\n X1 R2 37\n X2 R1 94\n X2 R2 41\n X3 R1 86\n X3 R2 83\nRHS\n R1 125\n R2 80\nBOUNDS\n LI X1 0\n UI X1 1\n LI X2 0\n UI X2 1\n LI X3 0\n UI X3 1\nENDATA\n";
+
+const SPLIT_FIXED: &str =
+    "NAME          SPLIT\r\nROWS\r\n N  COST\r\n E  R1\r\n E  R2\r\nCOLUMNS\r\n    MARK0     'MARKER'                 'INTORG'\r\n    X1        R1        71             R2        37\r\n    X2        R1        94             R2        41\r\n    X3        R1        86             R2        83\r\n    MARK1     'MARKER'                 'INTEND'\r\nRHS\r\n    RHS       R1        125            R2        80\r\nBOUNDS\r\n UP BND       X1        1\r\n UP BND       X2        1\r\n UP BND       X3        1\r\nENDATA\r\n";
 
 // The files of the folder `examples`.
 const BOXES_44: &str =
@@ -30,6 +57,9 @@ const EVEN_SUM_FAR: &str =
 const PARITY_LINES: &str =
     "NAME two numbers whose sum is odd and whose difference is 0\nROWS\n E sum\n E difference\nCOLUMNS\n x sum 1\n x difference 1\n y sum 1\n y difference -1\nRHS\n sum 1\nBOUNDS\n UI x 1\n UI y 1\nENDATA\n";
 
+const HALVES: &str =
+    "* half of a dozen and a half at least\nNAME halves\nROWS\n N cost\n G r\nCOLUMNS\n x r 0.5\nRHS\n r 1.25 cost 1.5\nBOUNDS\n UI x 3.5\nENDATA\n";
+
 fn words(alloc: Global, text: &str) -> Result<Vec<String>, AllocError> {
     let mut words = Vec::new(alloc);
     for word in text.split_whitespace() {
@@ -41,31 +71,162 @@ fn words(alloc: Global, text: &str) -> Result<Vec<String>, AllocError> {
 #[test]
 fn runs_answer_and_report(rt: HostRuntime) -> Result<(), Fail> {
     let alloc = rt.alloc();
-    for (line, text, code, report) in [
+    for (text, code, report) in [
+        (TWO_COINS, 0, "OPTIMAL\nVALUE 0\nPOINT 1 x\nPOINT 1 y\n"),
         (
-            "solve m p",
-            TWO_COINS,
+            TWO_COINS_AGAIN,
             0,
             "OPTIMAL\nVALUE 0\nPOINT 1 x\nPOINT 1 y\n",
         ),
-        ("solve m p", TWO_COINS_UNREACHABLE, 1, "INFEASIBLE\n"),
-        ("solve m p", EVEN_SUM, 1, "INFEASIBLE\n"),
+        (TWO_COINS_UNREACHABLE, 1, "INFEASIBLE\n"),
+        (EVEN_SUM, 1, "INFEASIBLE\n"),
+        (EMPTY, 0, "OPTIMAL\nVALUE 0\n"),
+        (HEAVY, 0, "OPTIMAL\nVALUE 0\nPOINT 0 x\n"),
+        (PARITY_PAIR, 1, "INFEASIBLE\n"),
+        (THIN_TRIANGLE, 1, "INFEASIBLE\n"),
+        (SPLIT_FREE, 1, "INFEASIBLE\n"),
+        (SPLIT_FIXED, 1, "INFEASIBLE\n"),
+        (HALVES, 0, "OPTIMAL\nVALUE -3/2\nPOINT 3 x\n"),
         (
-            "solve m p",
             BOXES_44,
             0,
             "OPTIMAL\nVALUE 0\nPOINT 1 six\nPOINT 2 nine\nPOINT 1 twenty\n",
         ),
-        ("solve m p", BOXES_43, 1, "INFEASIBLE\n"),
-        ("solve m p", EVEN_SUM_FAR, 1, "INFEASIBLE\n"),
-        ("solve m p", PARITY_LINES, 1, "INFEASIBLE\n"),
-        ("solve m p", EMPTY, 4, "TEXT Unbuilt 0\n"),
-        ("solve m p", PARITY_PAIR, 4, "TEXT Unbuilt 0\n"),
+        (BOXES_43, 1, "INFEASIBLE\n"),
+        (EVEN_SUM_FAR, 1, "INFEASIBLE\n"),
+        (PARITY_LINES, 1, "INFEASIBLE\n"),
+        (TWO_CONSTRAINTS, 4, "TEXT Unbuilt 0\n"),
+        (RANGED, 4, "TEXT Unbuilt 0\n"),
+        (PRICED, 4, "TEXT NoUpper 6\n"),
+    ] {
+        let mut desk = MemDesk::new(alloc);
+        desk.add_input("m", text.as_bytes())?;
+        let status = run(alloc, &words(alloc, "solve m p")?, &mut desk);
+        assert_eq!(rt; status.code(), code, "of {text}");
+        assert_eq!(rt; desk.said(), report.as_bytes(), "to {text}");
+        assert!(rt; desk.written("p").is_empty());
+    }
+    Ok(())
+}
+
+#[test]
+fn changed_texts_are_judged(rt: HostRuntime) -> Result<(), Fail> {
+    let alloc = rt.alloc();
+    for (text, old, new, report) in [
+        (
+            PRICED,
+            "ENDATA",
+            "BOUNDS\n UP x -1\nENDATA",
+            "TEXT NegativeUpper 6\n",
+        ),
+        (
+            PRICED,
+            "ENDATA",
+            "BOUNDS\n MI x\n UP x -1\nENDATA",
+            "TEXT NoLower 6\n",
+        ),
+        (
+            PRICED,
+            "ENDATA",
+            "BOUNDS\n LO x -4\n UP x -1\nENDATA",
+            "TEXT Unbuilt 0\n",
+        ),
+        (
+            PRICED,
+            " x c 1\n M2 'MARKER' 'INTEND'\n",
+            " x c 0.5\n M2 'MARKER' 'INTEND'\nRHS\n c 3\nBOUNDS\n LI x 3\n UI x 9\n",
+            "TEXT Unbuilt 0\n",
+        ),
+        (HEAVY, "950335", "950336", "LIMIT ROW r\n"),
+        (RANGED, " r -3", " r 3", "TEXT Unbuilt 0\n"),
+        (RANGED, " r -3", " r 0", "TEXT Unbuilt 0\n"),
+        (
+            TWO_COINS,
+            " r 3\n y r 5\nRHS\n r 8\nBOUNDS\n UI x 10\n UI y 10\nENDATA\n",
+            " r",
+            "TEXT FieldCount 6\n",
+        ),
+        (TWO_COINS, " x r 3", " x r 3e", "TEXT NotNumber 6\n"),
+        (TWO_COINS, "ENDATA\n", "", "TEXT NoEnd 12\n"),
+        (TWO_COINS, TWO_COINS, "", "TEXT NoEnd 0\n"),
+        (TWO_COINS, " x r 3", " x r 3\n x r 3", "TEXT Duplicate 7\n"),
+        (TWO_COINS, "ROWS", "OBJSENSE\nROWS", "TEXT Section 2\n"),
+        (
+            TWO_COINS,
+            " UI y 10",
+            " UI y 10\n UI y 10",
+            "OPTIMAL\nVALUE 0\nPOINT 1 x\nPOINT 1 y\n",
+        ),
+    ] {
+        let text = text.replace(alloc, old, new)?;
+        let mut desk = MemDesk::new(alloc);
+        desk.add_input("m", text.as_bytes())?;
+        run(alloc, &words(alloc, "solve m p")?, &mut desk);
+        assert_eq!(rt; desk.said(), report.as_bytes(), "to {text}");
+    }
+    Ok(())
+}
+
+#[test]
+fn words_are_obeyed(rt: HostRuntime) -> Result<(), Fail> {
+    let alloc = rt.alloc();
+    // The same fixed text with a tab in line 4, and with a column `X 1` in line 8.
+    let tabbed = SPLIT_FIXED.replace(alloc, " E  R1", " E\t R1")?;
+    let spaced = SPLIT_FIXED.replace(
+        alloc,
+        "    X1        R1        71",
+        "    X 1       R1        71             R2        37\r\n    X1        R1        71",
+    )?;
+    let free_price = PRICED.replace(alloc, " x c 1", " x c 0e999")?;
+    let wide_price = PRICED.replace(alloc, " x c 1", " x c 1e39")?;
+    for (line, text, code, report) in [
+        ("solve --fixed m p", SPLIT_FIXED, 1, "INFEASIBLE\n"),
+        ("solve --fixed m p", tabbed.as_str(), 4, "TEXT Byte 4\n"),
+        ("solve m p", tabbed.as_str(), 1, "INFEASIBLE\n"),
+        ("solve --fixed m p", spaced.as_str(), 4, "TEXT NoUpper 8\n"),
+        ("solve m p", spaced.as_str(), 4, "TEXT FieldCount 8\n"),
+        ("solve --fixed m p", TWO_COINS, 4, "TEXT Byte 3\n"),
+        ("solve --upper 9 m p", PRICED, 4, "TEXT Unbuilt 0\n"),
+        (
+            "solve --upper 9 m p",
+            wide_price.as_str(),
+            4,
+            "TEXT WideNumber 6\n",
+        ),
+        (
+            "solve --upper 9 m p",
+            free_price.as_str(),
+            0,
+            "OPTIMAL\nVALUE 0\nPOINT 0 x\n",
+        ),
+        ("solve m p", free_price.as_str(), 4, "TEXT NoUpper 6\n"),
+        (
+            "solve --upper 9 --fixed m p",
+            SPLIT_FIXED,
+            1,
+            "INFEASIBLE\n",
+        ),
         ("solve other p", TWO_COINS, 6, "READFAULT\n"),
         ("solve m m", TWO_COINS, 3, "WORDS\n"),
         ("", TWO_COINS, 3, "WORDS\n"),
+        ("solve", TWO_COINS, 3, "WORDS\n"),
         ("solve m", TWO_COINS, 3, "WORDS\n"),
         ("solve -m p", TWO_COINS, 3, "WORDS\n"),
+        ("solve m p q", TWO_COINS, 3, "WORDS\n"),
+        ("solve --upper m p", TWO_COINS, 3, "WORDS\n"),
+        ("solve --upper 01 m p", TWO_COINS, 3, "WORDS\n"),
+        ("solve --upper -1 m p", TWO_COINS, 3, "WORDS\n"),
+        ("solve --upper 1.0 m p", TWO_COINS, 3, "WORDS\n"),
+        (
+            "solve --upper 4611686018427387905 m p",
+            TWO_COINS,
+            3,
+            "WORDS\n",
+        ),
+        ("solve --upper 1 --upper 1 m p", TWO_COINS, 3, "WORDS\n"),
+        ("solve --fixed --fixed m p", TWO_COINS, 3, "WORDS\n"),
+        ("solve m --fixed p", TWO_COINS, 3, "WORDS\n"),
+        ("solve --nodes 5 m p", TWO_COINS, 3, "WORDS\n"),
         ("check m p", TWO_COINS, 3, "WORDS\n"),
     ] {
         let mut desk = MemDesk::new(alloc);
@@ -73,7 +234,219 @@ fn runs_answer_and_report(rt: HostRuntime) -> Result<(), Fail> {
         let status = run(alloc, &words(alloc, line)?, &mut desk);
         assert_eq!(rt; status.code(), code, "of {line}");
         assert_eq!(rt; desk.said(), report.as_bytes(), "to {line}");
-        assert!(rt; desk.written("p").is_empty());
+    }
+    Ok(())
+}
+
+#[test]
+fn words_are_read(rt: HostRuntime) -> Result<(), Fail> {
+    let alloc = rt.alloc();
+    for (line, layout, upper) in [
+        ("solve model.mps proof.txt", Layout::Free, None),
+        ("solve --fixed model.mps proof.txt", Layout::Fixed, None),
+        ("solve --upper 0 model.mps proof.txt", Layout::Free, Some(0)),
+        (
+            "solve --fixed --upper 4611686018427387904 model.mps proof.txt",
+            Layout::Fixed,
+            Some(4_611_686_018_427_387_904),
+        ),
+    ] {
+        let Command::Solve {
+            options,
+            model,
+            proof,
+        } = read_words(alloc, &words(alloc, line)?)?;
+        assert!(rt; options.layout == layout, "in {line}");
+        assert!(rt; options.upper == upper, "in {line}");
+        assert_eq!(rt; model.text().as_bytes(), "model.mps".as_bytes());
+        assert_eq!(rt; proof.text().as_bytes(), "proof.txt".as_bytes());
+    }
+    Ok(())
+}
+
+#[test]
+fn large_parts_are_named(rt: HostRuntime) -> Result<(), Fail> {
+    let alloc = rt.alloc();
+    // 79228162514264337593543950336 is 2^96. A row weighs its side, and its one factor where the column reaches 1.
+    for (side, bound, constant, code, report) in [
+        (
+            "79228162514264337593543950335",
+            "1",
+            "0",
+            0,
+            "OPTIMAL\nVALUE 0\nPOINT 0 x\n",
+        ),
+        (
+            "79228162514264337593543950336",
+            "1",
+            "0",
+            5,
+            "LIMIT ROW r\n",
+        ),
+        (
+            "0",
+            "79228162514264337593543950336",
+            "0",
+            0,
+            "OPTIMAL\nVALUE 0\nPOINT 0 x\n",
+        ),
+        (
+            "0",
+            "79228162514264337593543950337",
+            "0",
+            5,
+            "LIMIT COLUMN x\n",
+        ),
+        (
+            "0",
+            "1",
+            "-79228162514264337593543950336",
+            0,
+            "OPTIMAL\nVALUE 79228162514264337593543950336\nPOINT 0 x\n",
+        ),
+        (
+            "0",
+            "1",
+            "79228162514264337593543950337",
+            5,
+            "LIMIT OBJECTIVE\n",
+        ),
+        (
+            "79228162514264337593543950337",
+            "79228162514264337593543950337",
+            "79228162514264337593543950337",
+            5,
+            "LIMIT COLUMN x\n",
+        ),
+    ] {
+        let text = format!(in alloc;
+            "ROWS\n N cost\n L r\nCOLUMNS\n x r 1\nRHS\n r {side} cost {constant}\nBOUNDS\n UI x {bound}\nENDATA\n"
+        )?;
+        let mut desk = MemDesk::new(alloc);
+        desk.add_input("m", text.as_bytes())?;
+        let status = run(alloc, &words(alloc, "solve m p")?, &mut desk);
+        assert_eq!(rt; status.code(), code, "of {text}");
+        assert_eq!(rt; desk.said(), report.as_bytes(), "to {text}");
+    }
+    Ok(())
+}
+
+#[test]
+fn faults_of_texts_are_printed(rt: HostRuntime) -> Result<(), Fail> {
+    let alloc = rt.alloc();
+    for (text, report) in [
+        ("", "TEXT NoEnd 0\n"),
+        ("ROWS\u{7f}\n", "TEXT Byte 1\n"),
+        ("NAME\n x\n", "TEXT Section 2\n"),
+        ("NAME\nOBJSENSE\nROWS\n", "TEXT Section 2\n"),
+        ("ROWS\n N\n", "TEXT FieldCount 2\n"),
+        ("ROWS\n X r\n", "TEXT RowKind 2\n"),
+        ("ROWS\n E r\n N r\n", "TEXT Duplicate 3\n"),
+        ("ROWS\n E r\nCOLUMNS\n x s 3e\n", "TEXT UnknownRow 4\n"),
+        ("ROWS\n E r\nCOLUMNS\n x r", "TEXT FieldCount 4\n"),
+        ("ROWS\n E r\nCOLUMNS\n x r 3e\n", "TEXT NotNumber 4\n"),
+        ("ROWS\n E r\nCOLUMNS\n x r 1e39\n", "TEXT WideNumber 4\n"),
+        (
+            "ROWS\n E r\nCOLUMNS\n x r 1\n x r 1\n",
+            "TEXT Duplicate 5\n",
+        ),
+        (
+            "ROWS\n E r\nCOLUMNS\n M 'MARKER' 'INTEND'\n",
+            "TEXT Marker 4\n",
+        ),
+        (
+            "ROWS\n E r\nCOLUMNS\n x r 1\nBOUNDS\n UP y 1\n",
+            "TEXT UnknownColumn 6\n",
+        ),
+        (
+            "ROWS\n E r\nCOLUMNS\n x r 1\nBOUNDS\n XX x 1\n",
+            "TEXT BoundKind 6\n",
+        ),
+        (
+            "ROWS\n E r\n E s\nCOLUMNS\n x r 1\nRHS\n A r 1\n s 1\n",
+            "TEXT SecondSet 8\n",
+        ),
+        (
+            "ROWS\n N c\nCOLUMNS\n x c 1\nRANGES\n c 1\n",
+            "TEXT RangeOnObjective 6\n",
+        ),
+        (
+            "ROWS\n E r\nCOLUMNS\n x r 1\nENDATA\n",
+            "TEXT Continuous 4\n",
+        ),
+        (
+            "ROWS\n E r\nCOLUMNS\n x r 1\nBOUNDS\n LI x 1\nENDATA\n",
+            "TEXT NoUpper 4\n",
+        ),
+        (
+            "ROWS\n E r\nCOLUMNS\n x r 1\nBOUNDS\n UI x -1\nENDATA\n",
+            "TEXT NegativeUpper 4\n",
+        ),
+        (
+            "ROWS\n E r\nCOLUMNS\n x r 1\nBOUNDS\n UI x 1\n MI x\nENDATA\n",
+            "TEXT NoLower 4\n",
+        ),
+        ("ROWS\n E r\nCOLUMNS\n x r 1\n", "TEXT NoEnd 4\n"),
+    ] {
+        let mut desk = MemDesk::new(alloc);
+        desk.add_input("m", text.as_bytes())?;
+        let status = run(alloc, &words(alloc, "solve m p")?, &mut desk);
+        assert_eq!(rt; status.code(), 4, "of {text}");
+        assert_eq!(rt; desk.said(), report.as_bytes(), "to {text}");
+    }
+    Ok(())
+}
+
+// ROWS with so many rows, and COLUMNS with so many columns, whose lines name the first row.
+fn many(alloc: Global, rows: u32, columns: u32) -> Result<String, AllocError> {
+    let mut text = String::from_str(alloc, "ROWS\n")?;
+    for row in 0..rows {
+        text.push_str(format!(in alloc; " E r{row}\n")?.as_str())?;
+    }
+    text.push_str("COLUMNS\n")?;
+    for column in 0..columns {
+        text.push_str(format!(in alloc; " x{column} r0 1\n")?.as_str())?;
+    }
+    text.push_str("ENDATA\n")?;
+    Ok(text)
+}
+
+#[test]
+fn rows_and_columns_are_limited(rt: HostRuntime) -> Result<(), Fail> {
+    let alloc = rt.alloc();
+    for (rows, columns, report) in [
+        (256, 1, "TEXT Continuous 259\n"),
+        (257, 1, "TEXT TooManyRows 258\n"),
+        (1, 256, "TEXT Continuous 4\n"),
+        (1, 257, "TEXT TooManyColumns 260\n"),
+    ] {
+        let mut desk = MemDesk::new(alloc);
+        desk.add_input("m", many(alloc, rows, columns)?.as_bytes())?;
+        let status = run(alloc, &words(alloc, "solve m p")?, &mut desk);
+        assert_eq!(rt; status.code(), 4, "at {rows} rows and {columns} columns");
+        assert_eq!(rt;
+            desk.said(),
+            report.as_bytes(),
+            "at {rows} rows and {columns} columns"
+        );
+    }
+    Ok(())
+}
+
+#[test]
+fn texts_and_lines_are_limited(rt: HostRuntime) -> Result<(), Fail> {
+    let alloc = rt.alloc();
+    for (stars, code, report) in [
+        (1_024, 4, "TEXT NoEnd 1\n"),
+        (1_025, 4, "TEXT LongLine 1\n"),
+        (16_777_216, 4, "TEXT LongLine 1\n"),
+        (16_777_217, 5, "LIMIT MODEL\n"),
+    ] {
+        let mut desk = MemDesk::new(alloc);
+        desk.add_input("m", &vec![in alloc; b'*'; stars]?)?;
+        let status = run(alloc, &words(alloc, "solve m p")?, &mut desk);
+        assert_eq!(rt; status.code(), code, "with {stars} bytes");
+        assert_eq!(rt; desk.said(), report.as_bytes(), "with {stars} bytes");
     }
     Ok(())
 }
@@ -95,39 +468,5 @@ fn faults_are_answered(rt: HostRuntime) -> Result<(), Fail> {
         assert_eq!(rt; status.code(), code, "where call {call} fails");
         assert_eq!(rt; desk.said(), said.as_bytes(), "where call {call} fails");
     }
-    Ok(())
-}
-
-// A text of the first form, made longer by blanks in its first line.
-fn long_text(alloc: Global, blanks: usize) -> Result<Vec<u8>, AllocError> {
-    let mut text = Vec::from_slice(alloc, b"NAME ")?;
-    for _ in 0..blanks {
-        text.push(b' ')?;
-    }
-    text.extend_from_slice(&TWO_COINS.as_bytes()["NAME two coins".len()..])?;
-    Ok(text)
-}
-
-#[test]
-fn lines_are_limited(rt: HostRuntime) -> Result<(), Fail> {
-    let alloc = rt.alloc();
-    for (blanks, code) in [(1_019, 0), (1_020, 4), (70_000, 4)] {
-        let mut desk = MemDesk::new(alloc);
-        desk.add_input("m", &long_text(alloc, blanks)?)?;
-        let status = run(alloc, &words(alloc, "solve m p")?, &mut desk);
-        assert_eq!(rt; status.code(), code, "with {blanks} blanks");
-    }
-    Ok(())
-}
-
-#[test]
-fn words_are_read(rt: HostRuntime) -> Result<(), Fail> {
-    let alloc = rt.alloc();
-    let Command::Solve { model, proof } = read_words(
-        alloc,
-        &words(alloc, "solve model.mps proof.txt")?,
-    )?;
-    assert_eq!(rt; model.text().as_bytes(), "model.mps".as_bytes());
-    assert_eq!(rt; proof.text().as_bytes(), "proof.txt".as_bytes());
     Ok(())
 }

@@ -1,13 +1,20 @@
 //! The command that a list of words spells.
-ghost use Rattle.std.specs.Prelude.{◌≡◌, ◌≤◌, None, Some, length, map, MatchResult, string_bytes};
-ghost use Rattle.solve_cli.specs.Words.{command_of, is_file_name as named};
-ghost use Rattle.solve_cli.specs.Commands.{solve_view, GivesCommand};
+ghost use Rattle.std.specs.Prelude.{◌≡◌, ◌≤◌, true, IfOk, length, map, option_and_then, string_bytes};
+ghost use Rattle.std.specs.List.{list_all};
+ghost use Rattle.mps_fields.specs.Decimal.{is_digit as digit, is_digits as digits};
+ghost use Rattle.solve_cli.specs.Words.{is_file_name as named_file, are_file_names as file_names, is_plain_number as plain_number, bound_of, first_option_of, words_in, with_option, settled, options_of, solve_of, no_options, command_of};
+ghost use Rattle.solve_cli.specs.Commands.{GivesCommand};
 ghost use Rattle.solve_cli.specs.declared.words.WordsStop.TheVariants.{NoMemory as no_memory};
 
+use mps_fields::number;
+use mps_model::Layout;
 use std::alloc::{AllocError, Global};
 use std::marker::Model;
 
 const MOST_NAME_BYTES: usize = 255;
+
+/// 2^62, the greatest upper bound that may be handed in.
+const MOST_UPPER: i128 = 4_611_686_018_427_387_904;
 
 /// The name of a file: 1 to 255 bytes that do not begin with `-`.
 #[derive(Debug, Drop)]
@@ -36,11 +43,75 @@ impl FileName {
     }
 }
 
+/// An option of `solve`.
+#[derive(Clone, Copy, Debug, Drop, PartialEq, Eq)]
+pub(crate) enum SolveOption {
+    Fixed,
+    Upper(i128),
+}
+
+/// How a model text is read: its layout, and the upper bound of the columns for which it gives none.
+#[derive(Clone, Copy, Debug, Drop, PartialEq, Eq)]
+pub struct Options {
+    pub layout: Layout,
+    pub upper: Option<i128>,
+}
+
+impl SolveOption {
+    /// How many words the option has.
+    fn words(self) -> usize
+        ensures { result ≡ words_in self }
+    {
+        match self {
+            SolveOption::Fixed => 1,
+            SolveOption::Upper(_) => 2,
+        }
+    }
+}
+
+impl Options {
+    /// Free form and no upper bound.
+    fn new() -> Options
+        ensures { result ≡ no_options }
+    {
+        Options {
+            layout: Layout::Free,
+            upper: None,
+        }
+    }
+
+    /// These options and one more, unless it is given already.
+    fn with(self, option: SolveOption) -> Option<Options>
+        ensures { result ≡ with_option self option }
+    {
+        match option {
+            SolveOption::Fixed => match self.layout {
+                Layout::Free => Some(Options {
+                    layout: Layout::Fixed,
+                    upper: self.upper,
+                }),
+                Layout::Fixed => None,
+            },
+            SolveOption::Upper(bound) => match self.upper {
+                None => Some(Options {
+                    layout: self.layout,
+                    upper: Some(bound),
+                }),
+                Some(_) => None,
+            },
+        }
+    }
+}
+
 /// A command.
 #[derive(Debug, Drop)]
 pub enum Command {
     /// Solves the model that the text in `model` states. The proof of the answer will go into `proof`.
-    Solve { model: FileName, proof: FileName },
+    Solve {
+        options: Options,
+        model: FileName,
+        proof: FileName,
+    },
 }
 
 /// Why words gave no command.
@@ -60,29 +131,120 @@ impl From<AllocError> for WordsStop {
 }
 
 fn is_file_name(word: &str) -> bool
-    ensures { result ≡ named word.now }
+    ensures { result ≡ named_file word.now }
 {
     let bytes = word.as_bytes();
     !bytes.is_empty() && bytes.len() <= MOST_NAME_BYTES && bytes[0] != b'-'
+}
+
+fn are_file_names(model: &str, proof: &str) -> bool
+    ensures { result ≡ file_names model.now proof.now }
+{
+    is_file_name(model) && is_file_name(proof) && model != proof
+}
+
+// Whether a byte is one of the digits 0 to 9.
+fn is_digit(byte: u8) -> bool
+    ensures { result ≡ digit byte }
+{
+    byte >= b'0' && byte <= b'9'
+}
+
+fn has_digits_only(word: &[u8]) -> bool
+    ensures { result ≡ list_all digit word.now }
+{
+    word.iter().all(|byte| is_digit(*byte))
+}
+
+fn is_digits(word: &[u8]) -> bool
+    ensures { result ≡ digits word.now }
+{
+    !word.is_empty() && has_digits_only(word)
+}
+
+fn is_plain_number(word: &[u8]) -> bool
+    ensures { result ≡ plain_number word.now }
+{
+    is_digits(word) && (word.len() == 1 || word[0] != b'0')
+}
+
+// The upper bound that a word spells, of at most 2^62.
+fn bound(word: &[u8]) -> Option<i128>
+    ensures { result ≡ bound_of word.now }
+{
+    if !is_plain_number(word) {
+        return None;
+    }
+    match number(word) {
+        Ok(number) if number.num() <= MOST_UPPER => Some(number.num()),
+        _ => None,
+    }
+}
+
+// The option that words begin with.
+fn first_option(words: &[String]) -> Option<SolveOption>
+    ensures { result ≡ first_option_of (map string_bytes words.now) }
+{
+    match words {
+        [word, ..] if word.as_str() == "--fixed" => Some(SolveOption::Fixed),
+        [word, value, ..] if word.as_str() == "--upper" => {
+            Some(SolveOption::Upper(bound(value.as_bytes())?))
+        }
+        _ => None,
+    }
+}
+
+// The options that words spell, in any order, each at most once.
+fn read_options(words: &[String]) -> Option<Options>
+    ensures { result ≡ option_and_then (settled no_options) (options_of (map string_bytes words.now)) }
+{
+    let mut given = Options::new();
+    let mut rest = words;
+    while !rest.is_empty() {
+        let option = first_option(rest)?;
+        given = given.with(option)?;
+        rest = &rest[option.words()..];
+    }
+    Some(given)
+}
+
+fn name(alloc: Global, word: &str) -> Result<FileName, AllocError>
+    requires { named_file word.now ≡ true }
+    ensures { IfOk result (λ name. name ≡ word.now) }
+{
+    Ok(FileName {
+        text: String::from_str(alloc, word)?,
+    })
+}
+
+// The command that the words behind `solve` spell: options in front of two names.
+fn read_solve(alloc: Global, words: &[String]) -> Result<Command, WordsStop>
+    ensures { GivesCommand result (solve_of (map string_bytes words.now)) }
+{
+    let (options, names) = words.split_at(words.len().saturating_sub(2));
+    let [model, proof] = names else {
+        return Err(WordsStop::Words);
+    };
+    let (model, proof) = (model.as_str(), proof.as_str());
+    if !are_file_names(model, proof) {
+        return Err(WordsStop::Words);
+    }
+    let Some(options) = read_options(options) else {
+        return Err(WordsStop::Words);
+    };
+    Ok(Command::Solve {
+        options,
+        model: name(alloc, model)?,
+        proof: name(alloc, proof)?,
+    })
 }
 
 /// The command that the words spell.
 pub fn read_words(alloc: Global, words: &Vec<String>) -> Result<Command, WordsStop>
     ensures { GivesCommand result (command_of (map string_bytes words.now.items)) }
 {
-    let [word, model, proof] = words.as_slice() else {
-        return Err(WordsStop::Words);
-    };
-    let (model, proof) = (model.as_str(), proof.as_str());
-    if word.as_str() != "solve" || !is_file_name(model) || !is_file_name(proof) || model == proof {
-        return Err(WordsStop::Words);
+    match words.as_slice() {
+        [word, rest @ ..] if word.as_str() == "solve" => read_solve(alloc, rest),
+        _ => Err(WordsStop::Words),
     }
-    Ok(Command::Solve {
-        model: FileName {
-            text: String::from_str(alloc, model)?,
-        },
-        proof: FileName {
-            text: String::from_str(alloc, proof)?,
-        },
-    })
 }

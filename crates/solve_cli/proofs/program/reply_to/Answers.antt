@@ -1,15 +1,18 @@
-use Rattle.std.proofs.Common.{[], ◌∷◌, refl, subst}
-use Rattle.std.specs.Prelude.{map, string_bytes}
+use Rattle.std.proofs.Common.{rules, [], ◌∷◌, refl, subst}
+use Rattle.std.specs.Prelude.{map, string_bytes, codes, Err}
 use Rattle.solve_cli.specs.declared.status.Status.TheVariants.{Words}
-use Rattle.solve_cli.specs.Report.{line_of}
 use Rattle.solve_cli.specs.Commands.{GivesCommand}
 use Rattle.solve_cli.specs.Words.{command_of}
-use Rattle.std.specs.Prelude.{Err}
-use Rattle.solve_cli.proofs.SolveLaws.{reasoned_by}
+use Rattle.solve_cli.specs.Answer.{Reason}
+use Rattle.solve_cli.proofs.SolveLaws.{replied_by}
+use Rattle.solve_cli.proofs.SpellLaws.{bounded_command}
 use Rattle.solve_cli.proofs.program.reply_to.Goals as goal
 
 pub returns-in-Err-Words-clause-reason : goal.returns-in-Err-Words-clause-reason
 returns-in-Err-Words-clause-reason g c =
-    reasoned_by _ _ Words (line_of Words ∷ []) c.short_reply.result
+    replied_by (Reason _ _) Words (codes "WORDS" ∷ []) c.line_reply.result
     (subst (λ stop. GivesCommand (Err stop) (command_of (map string_bytes c.args.words.now.items))) c.in-Err-Words.field-0-is c.in-Err-Words.ensures, refl)
-    c.short_reply.ensures.status c.short_reply.ensures.report
+    c.line_reply.ensures.status c.line_reply.ensures.report
+
+pub solve_file-requires : goal.solve_file-requires
+solve_file-requires g c = let low = bounded_command (map string_bytes c.args.words.now.items) _ c.in-Ok.ensures in search rules

@@ -1,6 +1,6 @@
 use Rattle.std.proofs.Common.{[], ◌∷◌, refl, ◌∙◌}
 use Rattle.solve_cli.specs.declared.status.Status.TheVariants.{NoMemory}
-use Rattle.solve_cli.specs.Report.{line_of}
+use Rattle.std.specs.Prelude.{codes}
 use Rattle.solve_cli.proofs.AnswerLaws.{run_answers, takes_said, completes}
 use Rattle.solve_cli.proofs.program.run.Goals as goal
 
@@ -20,7 +20,7 @@ returns-in-Ok-clause-inputs g c =
 pub returns-in-Err-clause-answer : goal.returns-in-Err-clause-answer
 returns-in-Err-clause-answer g c =
     let replied = c.in-Err.ensures in
-    run_answers _ _ _ NoMemory c.say-in-Err.result (line_of NoMemory ∷ []) _ _ _ _ replied.later refl replied.said refl c.say-in-Err.ensures.said
+    run_answers _ _ _ NoMemory c.say-in-Err.result (codes "NOMEMORY" ∷ []) _ _ _ _ replied.later refl replied.said refl c.say-in-Err.ensures.said
 
 pub returns-in-Err-clause-complete : goal.returns-in-Err-clause-complete
 returns-in-Err-clause-complete g c = completes _ _ _ _ c.say-in-Err.result (returns-in-Err-clause-answer g c)

@@ -1,39 +1,35 @@
-use Rattle.std.proofs.Common.{[], ◌∷◌, refl, ap, subst, ◌∙◌, SFits, rules, to_z-of_z}
-use Rattle.std.proofs.lemmas.Option.{MatchOption-at_some, MatchOption-at_none}
-use Rattle.first_form.specs.Stop.{Refuses}
-use Rattle.first_form.specs.Stated.{stated}
-use Rattle.int_model.specs.Points.{value_at}
-use Rattle.solve_cli.specs.declared.status.Status.TheVariants.{Infeasible}
-use Rattle.solve_cli.specs.Report.{report_of, line_of, optimal_lines}
-use Rattle.solve_cli.proofs.SolveLaws.{solved_by, stated_best, stated_constant}
+use Rattle.std.proofs.Common.{[], ◌∷◌, inl, inr, refl, sym, ap, ◌∙◌}
+use Rattle.std.specs.Prelude.{codes, Err}
+use Rattle.solve_cli.specs.declared.status.Input.TheVariants.{ModelText}
+use Rattle.solve_cli.specs.declared.status.Status.TheVariants.{Text, TooLong}
+use Rattle.solve_cli.specs.Report.{text_line}
+use Rattle.solve_cli.specs.Verdict.{Solves, Verdict, unbuilt}
+use Rattle.solve_cli.proofs.SolveLaws.{is_filled, is_nothing, searched, replied_by, replied_on}
 use Rattle.solve_cli.proofs.program.solve.Goals as goal
-use mir.Syntax.{w128}
 
-pub returns-in-Err-Unbuilt : goal.returns-in-Err-Unbuilt
-returns-in-Err-Unbuilt c =
-    solved_by c.args.text.now _ _ c.short_reply.result
-    (subst (λ stop. Refuses stop (stated c.args.text.now)) c.in-Err-Unbuilt.field-0-is c.in-Err-Unbuilt.ensures.exact, refl, refl)
-    c.short_reply.ensures.status c.short_reply.ensures.report
+pub returns-then-text-gt-MOST_TEXT_BYTES : goal.returns-then-text-gt-MOST_TEXT_BYTES
+returns-then-text-gt-MOST_TEXT_BYTES c =
+    replied_by (Verdict c.args.options c.args.text.now) (TooLong ModelText) (codes "LIMIT MODEL" ∷ []) c.line_reply.result
+    (record { long = c.if-text-gt-MOST_TEXT_BYTES.true; report = refl })
+    c.line_reply.ensures.status c.line_reply.ensures.report
 
-pub returns-in_default : goal.returns-in_default
-returns-in_default c =
-    let none = MatchOption-at_none _ _ c.in_default.is c.in_ok-point.ensures in
-    solved_by c.args.text.now Infeasible (line_of Infeasible ∷ []) c.short_reply-in_default.result
-    (c.in-Ok.model, c.in-Ok.ensures.exact, λ x point. none x ((c.in_ok-rows.ensures.points x).0 point), refl)
-    c.short_reply-in_default.ensures.status c.short_reply-in_default.ensures.report
+pub returns-in-Err-Fault : goal.returns-in-Err-Fault
+returns-in-Err-Fault c =
+    let fault = c.in-Err-Fault.fault in
+    replied_by (Verdict c.args.options c.args.text.now) (Text fault) (text_line fault ∷ []) c.text_reply.result
+    (record { short = c.if-text-gt-MOST_TEXT_BYTES.false; cause = inl (c.in-Err-Fault.ensures.fault fault (ap Err c.in-Err-Fault.field-0-is)); report = refl })
+    c.text_reply.ensures.status c.text_reply.ensures.report
+
+pub returns-then-not-is_empty : goal.returns-then-not-is_empty
+returns-then-not-is_empty c =
+    let objective = is_filled c.in-Ok.model.objective c.items.result.now c.items.ensures (sym c.is_empty.ensures ∙ c.if-not-is_empty.true) in
+    replied_by (Verdict c.args.options c.args.text.now) (Text unbuilt) (text_line unbuilt ∷ []) c.text_reply-then-not-is_empty.result
+    (record { short = c.if-text-gt-MOST_TEXT_BYTES.false; cause = inr (record { model = c.in-Ok.model; states = c.in-Ok.ensures.model; objective = objective }, refl); report = refl })
+    c.text_reply-then-not-is_empty.ensures.status c.text_reply-then-not-is_empty.ensures.report
 
 pub returns : goal.returns
 returns c =
-    let model = c.in-Ok.model in
-    let point = c.in-Some.point.items in
-    let told = c.in-Ok.ensures.exact in
-    let meets = MatchOption-at_some _ _ c.in-Some.point c.in-Some.is c.in_ok-point.ensures in
-    let fits : SFits w128 model.constant = search rules in
-    let report = simp to_z-of_z at c.in_ok-report.ensures in (
-      optimal_lines (value_at model point) model.columns point,
-      report
-          ∙ ap (λ value. report_of (optimal_lines value c.items.result.now c.deref.result.now)) (stated_constant c.args.text.now model told point)
-          ∙ ap (λ columns. report_of (optimal_lines (value_at model point) columns c.deref.result.now)) c.items.ensures
-          ∙ ap (λ values. report_of (optimal_lines (value_at model point) model.columns values)) c.deref.ensures.value,
-      (model, point, told, stated_best c.args.text.now model point told ((c.in_ok-rows.ensures.points point).1 meets), refl),
-    )
+    let plain = is_nothing c.in-Ok.model.objective c.items.result.now c.items.ensures (sym c.is_empty.ensures ∙ c.if-not-is_empty.false) in
+    replied_on (Solves c.in-Ok.model) (Verdict c.args.options c.args.text.now) c.search.result
+    (λ status lines solves. searched c.args.options c.args.text.now c.in-Ok.model status lines c.if-text-gt-MOST_TEXT_BYTES.false c.in-Ok.ensures.model plain solves)
+    c.search.ensures

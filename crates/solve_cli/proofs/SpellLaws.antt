@@ -1,0 +1,191 @@
+-- Words are read as a command exactly where they are that command written down.
+use Rattle.std.proofs.Common.{◌≡◌, ◌-◌, ℕ, ℤ, pos, negsuc, ◌≤ℤ◌, Bool, true, false, cond, List, [], ◌∷◌, ◌++◌, length, take, drop, Option, Some, None, refl, sym, ap, ◌∙◌, subst, arith, take-append-drop}
+use Rattle.std.specs.Prelude.{All, IfSome, option_map, option_and_then, codes, bytes_eq, flat_map}
+use Rattle.std.proofs.lemmas.Bool.{cond-true}
+use Rattle.std.proofs.lemmas.Int.{ints}
+use Rattle.std.proofs.lemmas.List.{length-append, take_at, drop_at}
+use Rattle.std.proofs.lemmas.Slice.Eq.{bytes_eq-Decides}
+use Rattle.std.specs.Fmt.{signed_decimal}
+use Rattle.std.proofs.lemmas.Option.{same_Some}
+use Rattle.std.proofs.lemmas.List.Elements.{All-nil, All-cons, All-head, All-tail}
+use Rattle.mps_model.specs.declared.layout.Layout.{Layout}
+use Rattle.mps_model.specs.declared.layout.Layout.TheVariants.{Free}
+use Rattle.mps_model.specs.declared.layout.Layout.TheVariants as Layouts
+use Rattle.solve_cli.specs.declared.words.SolveOption.{SolveOption}
+use Rattle.solve_cli.specs.declared.words.SolveOption.TheVariants.{Fixed, Upper}
+use Rattle.solve_cli.specs.declared.words.Options.{Options}
+use Rattle.solve_cli.specs.Words.{bound_of, options_of, option_words, IsOption, settled, with_fixed, with_upper, with_option, no_options, settled_options, named, are_file_names, Solve, solve_of, command_of, Spells}
+use Rattle.solve_cli.proofs.NumberSpelling.{bound_spelled, spelled_bound}
+
+-- ---- steps of options
+
+text_is : (xs ys : List ℕ) → bytes_eq xs ys ≡ true → xs ≡ ys
+text_is xs ys e = (bytes_eq-Decides xs ys).0 e
+
+when_true : {A : Type 0} (b : Bool) (o : Option A) (x : A) → cond b o None ≡ Some x → (b ≡ true) × (o ≡ Some x)
+when_true true o x e = (refl, e)
+when_true false o x e = absurd cc
+
+map_some : {A B : Type 0} (f : A → B) (o : Option A) (y : B) → option_map f o ≡ Some y → (x : A) × (o ≡ Some x) × (f x ≡ y)
+map_some f (Some x) y e = (x, refl, same_Some (f x) y e)
+map_some f None y e = absurd cc
+
+then_some : {A B : Type 0} (f : A → Option B) (o : Option A) (y : B) → option_and_then f o ≡ Some y → (x : A) × (o ≡ Some x) × (f x ≡ Some y)
+then_some f (Some x) y e = (x, refl, e)
+then_some f None y e = absurd cc
+
+-- ---- options
+
+-- the words are those of the options
+abbrev Written : List (List ℕ) → List SolveOption → Type 0
+Written words options = All IsOption options × (words ≡ flat_map option_words options)
+
+fixed_more : (word : List ℕ) (words : List (List ℕ)) (options : List SolveOption) → word ≡ codes "--fixed" → Written words options → Written (word ∷ words) (Fixed ∷ options)
+fixed_more word words options is_word rest = (All-cons IsOption Fixed options tt rest.0, rw (is_word, rest.1) refl)
+
+upper_more : (word next : List ℕ) (words : List (List ℕ)) (b : ℤ) (options : List SolveOption) → word ≡ codes "--upper" → bound_of next ≡ Some b → Written words options
+    → Written (word ∷ next ∷ words) (Upper b ∷ options)
+upper_more word next words b options is_word bound rest =
+    let spelled = bound_spelled next b bound in
+    (All-cons IsOption (Upper b) options spelled.0 rest.0, rw (is_word, spelled.1, rest.1) refl)
+
+module _ (word next : List ℕ) (words : List (List ℕ))
+    (behind : (options : List SolveOption) → options_of (next ∷ words) ≡ Some options → Written (next ∷ words) options)
+    (behind_two : (options : List SolveOption) → options_of words ≡ Some options → Written words options) where
+  two_words : (fixed upper : Bool) (bound : Option ℤ) (options : List SolveOption) → bytes_eq word (codes "--fixed") ≡ fixed → bytes_eq word (codes "--upper") ≡ upper → bound_of next ≡ bound
+      → cond fixed (option_map (λ options. Fixed ∷ options) (options_of (next ∷ words)))
+      (cond upper (option_and_then (λ bound. option_map (λ options. Upper bound ∷ options) (options_of words)) bound) None) ≡ Some options
+      → Written (word ∷ next ∷ words) options
+  two_words true upper bound options is_fixed is_upper is_bound e =
+      let rest = map_some (λ options. Fixed ∷ options) (options_of (next ∷ words)) options e in
+      subst (Written (word ∷ next ∷ words)) rest.2 (fixed_more word (next ∷ words) rest.0 (text_is word (codes "--fixed") is_fixed) (behind rest.0 rest.1))
+  two_words false true (Some b) options is_fixed is_upper is_bound e =
+      let rest = map_some (λ options. Upper b ∷ options) (options_of words) options e in
+      subst (Written (word ∷ next ∷ words)) rest.2 (upper_more word next words b rest.0 (text_is word (codes "--upper") is_upper) is_bound (behind_two rest.0 rest.1))
+  two_words false true None options is_fixed is_upper is_bound e = absurd cc
+  two_words false false bound options is_fixed is_upper is_bound e = absurd cc
+
+one_word : (word : List ℕ) (options : List SolveOption) → cond (bytes_eq word (codes "--fixed")) (Some (Fixed ∷ [])) None ≡ Some options → Written (word ∷ []) options
+one_word word options e =
+    let told = when_true (bytes_eq word (codes "--fixed")) (Some (Fixed ∷ [])) options e in
+    subst (Written (word ∷ [])) (same_Some (Fixed ∷ []) options told.1) (fixed_more word [] [] (text_is word (codes "--fixed") told.0) (All-nil IsOption, refl))
+
+-- words that are read as options are those of the options
+options_written : (words : List (List ℕ)) (options : List SolveOption) → options_of words ≡ Some options → Written words options
+unfolding options_of
+options_written [] options e = subst (Written []) (same_Some [] options e) (All-nil IsOption, refl)
+options_written (word ∷ []) options e = one_word word options e
+options_written (word ∷ next ∷ words) options e =
+    two_words word next words (λ more h. options_written (next ∷ words) more h) (λ more h. options_written words more h)
+    (bytes_eq word (codes "--fixed")) (bytes_eq word (codes "--upper")) (bound_of next) options refl refl refl e
+
+fixed_front : (words : List (List ℕ)) → options_of (codes "--fixed" ∷ words) ≡ option_map (λ options. Fixed ∷ options) (options_of words)
+unfolding options_of
+fixed_front [] = refl
+fixed_front (word ∷ words) = refl
+
+upper_front : (word : List ℕ) (words : List (List ℕ)) (b : ℤ) → bound_of word ≡ Some b
+    → options_of (codes "--upper" ∷ word ∷ words) ≡ option_map (λ options. Upper b ∷ options) (options_of words)
+unfolding options_of
+upper_front word words b e = ap (option_and_then (λ bound. option_map (λ options. Upper bound ∷ options) (options_of words))) e
+
+written_bound : (b : ℤ) → IsOption (Upper b) → bound_of (signed_decimal b) ≡ Some b
+written_bound (pos u) range = spelled_bound u (omega (arith, ints, range.1))
+written_bound (negsuc n) range = absurd (omega (arith, ints, range.0))
+
+-- and the words of options are read as them
+written_options : (options : List SolveOption) → All IsOption options → options_of (flat_map option_words options) ≡ Some options
+unfolding options_of
+written_options [] range = refl
+written_options (Fixed ∷ options) range =
+    fixed_front (flat_map option_words options) ∙ ap (option_map (λ more. Fixed ∷ more)) (written_options options (All-tail IsOption Fixed options range))
+written_options (Upper b ∷ options) range =
+    upper_front (signed_decimal b) (flat_map option_words options) b (written_bound b (All-head IsOption (Upper b) options range))
+    ∙ ap (option_map (λ more. Upper b ∷ more)) (written_options options (All-tail IsOption (Upper b) options range))
+
+-- ---- commands
+
+named_parts : (words : List (List ℕ)) (options : Options) (command : Solve) → named words options ≡ Some command
+    → (words ≡ command.model ∷ command.proof ∷ []) × (options ≡ command.options) × (are_file_names command.model command.proof ≡ true)
+named_parts [] options command e = absurd cc
+named_parts (one ∷ []) options command e = absurd cc
+named_parts (model ∷ proof ∷ []) options command e =
+    let told = when_true (are_file_names model proof) (Some (record { options = options; model = model; proof = proof })) command e in
+    subst (λ (c : Solve). (model ∷ proof ∷ [] ≡ c.model ∷ c.proof ∷ []) × (options ≡ c.options) × (are_file_names c.model c.proof ≡ true))
+    (same_Some (record { options = options; model = model; proof = proof }) command told.1) (refl, refl, told.0)
+named_parts (one ∷ two ∷ three ∷ words) options command e = absurd cc
+
+solve_spelled : (words : List (List ℕ)) (command : Solve) → solve_of words ≡ Some command → Spells (codes "solve" ∷ words) command
+solve_spelled words command e =
+    let n = length words - 2 in
+    let told = then_some (named (drop n words)) (settled_options (take n words)) command e in
+    let settles = then_some (settled no_options) (options_of (take n words)) told.0 told.1 in
+    let names = named_parts (drop n words) told.0 command told.2 in
+    let written = options_written (take n words) settles.0 settles.1 in
+    record {
+      options = settles.0;
+      in_range = written.0;
+      once = settles.2 ∙ ap Some names.1;
+      names = names.2;
+      spelled = ap (λ rest. codes "solve" ∷ rest)
+          (sym (take-append-drop n words) ∙ ap (λ front. front ++ drop n words) written.1 ∙ ap (λ last. flat_map option_words settles.0 ++ last) names.0);
+    }
+
+pub command_spelled : (words : List (List ℕ)) (command : Solve) → command_of words ≡ Some command → Spells words command
+command_spelled [] command e = absurd cc
+command_spelled (word ∷ words) command e =
+    let told = when_true (bytes_eq word (codes "solve")) (solve_of words) command e in
+    subst (λ w. Spells (w ∷ words) command) (sym (text_is word (codes "solve") told.0)) (solve_spelled words command told.1)
+
+module _ (command : Solve) (options : List SolveOption) (range : All IsOption options) (once : settled no_options options ≡ Some command.options)
+    (names : are_file_names command.model command.proof ≡ true) where
+  abbrev front : List (List ℕ)
+  front = flat_map option_words options
+
+  abbrev last : List (List ℕ)
+  last = command.model ∷ command.proof ∷ []
+
+  count : length (front ++ last) - 2 ≡ length front
+  count = omega (arith, length-append front last)
+
+  spelled_solve : solve_of (front ++ last) ≡ Some command
+  spelled_solve =
+      ap (λ n. option_and_then (named (drop n (front ++ last))) (settled_options (take n (front ++ last)))) count
+      ∙ ap (λ words. option_and_then (named words) (settled_options (take (length front) (front ++ last)))) (drop_at front last (length front) refl)
+      ∙ ap (λ words. option_and_then (named last) (settled_options words)) (take_at front last (length front) refl)
+      ∙ ap (λ found. option_and_then (named last) (option_and_then (settled no_options) found)) (written_options options range)
+      ∙ ap (option_and_then (named last)) once
+      ∙ cond-true (are_file_names command.model command.proof) (Some command) None names
+
+pub spelled_command : (words : List (List ℕ)) (command : Solve) → Spells words command → command_of words ≡ Some command
+spelled_command words command s = ap command_of s.spelled ∙ spelled_solve command s.options s.in_range s.once s.names
+
+-- ---- the upper bound of a command
+
+-- an upper bound is at least 0
+abbrev pub IsBounded : Options → Type 0
+IsBounded options = IfSome options.upper (λ bound. pos 0 ≤ℤ bound)
+
+bounded_fixed : (layout : Layout) (upper : Option ℤ) (more : Options) → IfSome upper (λ bound. pos 0 ≤ℤ bound) → with_fixed layout upper ≡ Some more → IsBounded more
+bounded_fixed Free upper more bounded e = subst IsBounded (same_Some (record { layout = Layouts.Fixed; upper = upper }) more e) bounded
+bounded_fixed Layouts.Fixed upper more bounded e = absurd cc
+
+bounded_upper : (bound : ℤ) (layout : Layout) (upper : Option ℤ) (more : Options) → pos 0 ≤ℤ bound → with_upper bound layout upper ≡ Some more → IsBounded more
+bounded_upper bound layout None more low e = subst IsBounded (same_Some (record { layout = layout; upper = Some bound }) more e) low
+bounded_upper bound layout (Some other) more low e = absurd cc
+
+bounded_with : (given more : Options) (option : SolveOption) → IsOption option → IsBounded given → with_option given option ≡ Some more → IsBounded more
+bounded_with given more Fixed range bounded e = bounded_fixed given.layout given.upper more bounded e
+bounded_with given more (Upper bound) range bounded e = bounded_upper bound given.layout given.upper more range.0 e
+
+bounded_settled : (given more : Options) (options : List SolveOption) → All IsOption options → IsBounded given → settled given options ≡ Some more → IsBounded more
+bounded_settled given more [] range bounded e = subst IsBounded (same_Some given more e) bounded
+bounded_settled given more (option ∷ options) range bounded e =
+    let step = then_some (λ next. settled next options) (with_option given option) more e in
+    bounded_settled step.0 more options (All-tail IsOption option options range)
+    (bounded_with given step.0 option (All-head IsOption option options range) bounded step.1) step.2
+
+pub bounded_command : (words : List (List ℕ)) (command : Solve) → command_of words ≡ Some command → IsBounded command.options
+bounded_command words command e =
+    let spelled = command_spelled words command e in
+    bounded_settled no_options command.options spelled.options spelled.in_range tt spelled.once

@@ -1,0 +1,161 @@
+-- Options that are read one after another.
+use Rattle.std.proofs.Common.{◌≡◌, ◌≢◌, ◌≤◌, ◌-◌, ℕ, ℤ, Bool, true, false, cond, List, [], ◌∷◌, length, get_or, map, take, drop, Option, Some, None, refl, sym, ap, ◌∙◌, subst, arith, length-drop}
+use Rattle.std.specs.Prelude.{◌==◌, option_map, option_and_then, codes, bytes_eq}
+use Rattle.std.proofs.lemmas.Bool.{eqb-true}
+use Rattle.std.proofs.lemmas.List.{drop-map, take-map, take_all, length-map}
+use Rattle.std.proofs.lemmas.Option.{same_Some}
+use Rattle.solve_cli.specs.declared.words.SolveOption.{SolveOption}
+use Rattle.solve_cli.specs.declared.words.SolveOption.TheVariants.{Fixed, Upper}
+use Rattle.solve_cli.specs.declared.words.Options.{Options}
+use Rattle.solve_cli.specs.Words.{bound_of, first_option_of, words_in, options_of, with_option, settled, no_options, settled_options, are_file_names, named, solve_of}
+
+-- an option in front of what words spell behind it
+abbrev before : SolveOption → List (List ℕ) → Option (List SolveOption)
+before option words = option_map (λ options. option ∷ options) (options_of (drop (words_in option) words))
+
+-- the words of the option are there, and what they all spell begins with it
+pub record Begins (option : SolveOption) (words : List (List ℕ)) : Type 0 where
+  pub within : words_in option ≤ length words
+  pub spelled : options_of words ≡ option_map (λ options. option ∷ options) (options_of (drop (words_in option) words))
+
+one_begins : (word : List ℕ) (fixed : Bool) (option : SolveOption) → cond fixed (Some Fixed) None ≡ Some option
+    → (words_in option ≤ 1) × (cond fixed (Some (Fixed ∷ [])) None ≡ before option (word ∷ []))
+unfolding options_of
+one_begins word true option e = subst (λ o. (words_in o ≤ 1) × (Some (Fixed ∷ []) ≡ before o (word ∷ []))) (same_Some Fixed option e) (omega arith, refl)
+one_begins word false option e = absurd cc
+
+module _ (word next : List ℕ) (words : List (List ℕ)) where
+  abbrev first : Bool → Bool → Option ℤ → Option SolveOption
+  first fixed upper bound = cond fixed (Some Fixed) (cond upper (option_map Upper bound) None)
+
+  abbrev all : Bool → Bool → Option ℤ → Option (List SolveOption)
+  all fixed upper bound =
+      cond fixed (option_map (λ options. Fixed ∷ options) (options_of (next ∷ words)))
+      (cond upper (option_and_then (λ bound. option_map (λ options. Upper bound ∷ options) (options_of words)) bound) None)
+
+  abbrev Follows : Bool → Bool → Option ℤ → SolveOption → Type 0
+  Follows fixed upper bound option = (words_in option ≤ length (word ∷ next ∷ words)) × (all fixed upper bound ≡ before option (word ∷ next ∷ words))
+
+  begins : (fixed upper : Bool) (bound : Option ℤ) (option : SolveOption) → first fixed upper bound ≡ Some option → Follows fixed upper bound option
+  begins true upper bound option e = subst (Follows true upper bound) (same_Some Fixed option e) (omega arith, refl)
+  begins false true (Some bound) option e = subst (Follows false true (Some bound)) (same_Some (Upper bound) option e) (omega arith, refl)
+  begins false true None option e = absurd cc
+  begins false false bound option e = absurd cc
+
+  none : (fixed upper : Bool) (bound : Option ℤ) → first fixed upper bound ≡ None → all fixed upper bound ≡ None
+  none true upper bound e = absurd cc
+  none false true (Some bound) e = absurd cc
+  none false true None e = refl
+  none false false bound e = refl
+
+-- the first option, with what the words behind it spell
+pub first_begins : (words : List (List ℕ)) (option : SolveOption) → first_option_of words ≡ Some option → Begins option words
+unfolding options_of
+first_begins [] option e = absurd cc
+first_begins (word ∷ []) option e =
+    let parts = one_begins word (bytes_eq word (codes "--fixed")) option e in
+    record { within = parts.0; spelled = parts.1 }
+first_begins (word ∷ next ∷ words) option e =
+    let parts = begins word next words (bytes_eq word (codes "--fixed")) (bytes_eq word (codes "--upper")) (bound_of next) option e in
+    record { within = parts.0; spelled = parts.1 }
+
+one_none : (fixed : Bool) → cond fixed (Some Fixed) None ≡ None → cond fixed (Some (Fixed ∷ [])) None ≡ None
+one_none true e = absurd cc
+one_none false e = refl
+
+-- words that begin with no option spell none
+pub first_none : (words : List (List ℕ)) → words ≢ [] → first_option_of words ≡ None → options_of words ≡ None
+unfolding options_of
+first_none [] some e = absurd (some refl)
+first_none (word ∷ []) some e = one_none (bytes_eq word (codes "--fixed")) e
+first_none (word ∷ next ∷ words) some e = none word next words (bytes_eq word (codes "--fixed")) (bytes_eq word (codes "--upper")) (bound_of next) e
+
+-- one more option settled
+pub settled_more : (given more : Options) (option : SolveOption) (rest : Option (List SolveOption)) → with_option given option ≡ Some more
+    → option_and_then (settled given) (option_map (λ options. option ∷ options) rest) ≡ option_and_then (settled more) rest
+settled_more given more option None e = refl
+settled_more given more option (Some options) e = rw e refl
+
+-- an option that is given already settles nothing
+pub settled_twice : (given : Options) (option : SolveOption) (rest : Option (List SolveOption)) → with_option given option ≡ None
+    → option_and_then (settled given) (option_map (λ options. option ∷ options) rest) ≡ None
+settled_twice given option None e = refl
+settled_twice given option (Some options) e = rw e refl
+
+-- what is left of a list behind its first items
+rest_of : {X : Type 0} (rest : List X) (k : ℕ) → take (length rest - k) (drop k rest) ≡ drop k rest
+rest_of rest k = take_all (length rest - k) (drop k rest) (omega (arith, length-drop k rest))
+
+-- a list with items has items after a map
+pub map_some : {X Y : Type 0} (f : X → Y) (xs : List X) → (length xs == 0) ≡ false → map f xs ≢ []
+map_some f [] e = absurd cc
+map_some f (x ∷ xs) e = λ h. absurd cc
+
+module _ {X : Type 0} (text : X → List ℕ) (rest : List X) (given : Options) (all : Option Options) (so_far : option_and_then (settled given) (options_of (map text rest)) ≡ all) where
+  -- one option more was read
+  pub read_more : (next : List X) (more : Options) (option : SolveOption) (k : ℕ) → Some option ≡ first_option_of (map text rest) → Some more ≡ with_option given option
+      → k ≡ words_in option → next ≡ take (length rest - k) (drop k rest) → option_and_then (settled more) (options_of (map text next)) ≡ all
+  read_more next more option k first settles count left =
+      let next_is : map text next ≡ drop (words_in option) (map text rest) =
+      ap (map text) (left ∙ rest_of rest k ∙ ap (λ n. drop n rest) count) ∙ sym (drop-map text (words_in option) rest) in
+      ap (λ words. option_and_then (settled more) (options_of words)) next_is
+      ∙ sym (settled_more given more option (options_of (drop (words_in option) (map text rest))) (sym settles))
+      ∙ ap (option_and_then (settled given)) (sym (first_begins (map text rest) option (sym first)).spelled)
+      ∙ so_far
+
+  -- the words go on with no option
+  pub read_other : (length rest == 0) ≡ false → None ≡ first_option_of (map text rest) → None ≡ all
+  read_other some first = sym (ap (option_and_then (settled given)) (first_none (map text rest) (map_some text rest some) (sym first))) ∙ so_far
+
+  -- the words go on with an option that is given already
+  pub read_twice : (option : SolveOption) → Some option ≡ first_option_of (map text rest) → None ≡ with_option given option → None ≡ all
+  read_twice option first settles =
+      sym (settled_twice given option (options_of (drop (words_in option) (map text rest))) (sym settles))
+      ∙ ap (option_and_then (settled given)) (sym (first_begins (map text rest) option (sym first)).spelled)
+      ∙ so_far
+
+  -- all words are read
+  pub read_all : (length rest == 0) ≡ true → Some given ≡ all
+  unfolding options_of
+  read_all empty = by rest empty so_far
+    where
+      by : (rest : List X) → (length rest == 0) ≡ true → option_and_then (settled given) (options_of (map text rest)) ≡ all → Some given ≡ all
+      by [] empty so_far = so_far
+      by (x ∷ xs) empty so_far = absurd (omega (arith, eqb-true (length (x ∷ xs)) 0 empty))
+
+-- ---- two names behind the options
+
+two_items : {X : Type 0} (names : List X) (first second : X) → length names ≡ 2 → first ≡ get_or names 0 first → second ≡ get_or names 1 second → names ≡ first ∷ second ∷ []
+two_items [] first second two is_first is_second = absurd (omega arith)
+two_items (x ∷ []) first second two is_first is_second = absurd (omega arith)
+two_items (x ∷ y ∷ []) first second two is_first is_second = rw (is_first, is_second) refl
+two_items (x ∷ y ∷ z ∷ names) first second two is_first is_second = absurd (omega arith)
+
+module _ {X : Type 0} (text : X → List ℕ) (words front names : List X) (k : ℕ) (model proof : X)
+    (count : k ≡ length words - 2) (in_front : front ≡ take k words) (behind : names ≡ drop k words) (two : length names ≡ 2)
+    (is_model : model ≡ get_or names 0 model) (is_proof : proof ≡ get_or names 1 proof) where
+  -- what the words in front settle, with the two names
+  solve_is : solve_of (map text words) ≡ option_and_then (named (text model ∷ text proof ∷ [])) (option_and_then (settled no_options) (options_of (map text front)))
+  solve_is =
+      let n : length (map text words) - 2 ≡ k = ap (λ m. m - 2) (length-map words text) ∙ sym count in
+      let last : drop (length (map text words) - 2) (map text words) ≡ text model ∷ text proof ∷ [] =
+      ap (λ m. drop m (map text words)) n ∙ drop-map text k words ∙ ap (map text) (sym behind ∙ two_items names model proof two is_model is_proof) in
+      let first : take (length (map text words) - 2) (map text words) ≡ map text front =
+      ap (λ m. take m (map text words)) n ∙ take-map text k words ∙ ap (map text) (sym in_front) in
+      ap (λ names. option_and_then (named names) (settled_options (take (length (map text words) - 2) (map text words)))) last
+      ∙ ap (λ words. option_and_then (named (text model ∷ text proof ∷ [])) (settled_options words)) first
+
+  -- the names are no two names of files
+  pub not_named : are_file_names (text model) (text proof) ≡ false → solve_of (map text words) ≡ None
+  not_named other = solve_is ∙ by (option_and_then (settled no_options) (options_of (map text front)))
+    where
+      by : (options : Option Options) → option_and_then (named (text model ∷ text proof ∷ [])) options ≡ None
+      by None = refl
+      by (Some options) = rw other refl
+
+  -- the command
+  pub is_solve : (options : Options) (model_name proof_name : List ℕ) → are_file_names (text model) (text proof) ≡ true
+      → Some options ≡ option_and_then (settled no_options) (options_of (map text front)) → model_name ≡ text model → proof_name ≡ text proof
+      → solve_of (map text words) ≡ Some (record { options = options; model = model_name; proof = proof_name })
+  is_solve options model_name proof_name files settles same_model same_proof =
+      solve_is ∙ ap (option_and_then (named (text model ∷ text proof ∷ []))) (sym settles) ∙ rw (files, same_model, same_proof) refl
