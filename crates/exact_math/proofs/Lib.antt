@@ -1,15 +1,2 @@
-pub mod IntegerRing
-pub mod IntegerOrder
-pub mod RationalLaws
-pub mod RationalRing
-pub mod QuotientLaws
-pub mod RationalOrder
-pub mod RationalFloor
 pub mod RationalExamples
-pub mod RingLaws
-pub mod RingExpressions
-pub mod RingSolver
 pub mod RingIdentities
-pub mod OrderedRing
-pub mod RationalTests
-pub mod LcmLaws

@@ -2,8 +2,8 @@
 use Rattle.std.proofs.Common.{◌≡◌, pos, negsuc, refl, Greater}
 use Rattle.exact_math.specs.Gcd.{gcd, gcd_within}
 use Rattle.std.proofs.Common.{[], ◌∷◌}
-use Rattle.exact_math.proofs.RingSolver.{ring, reads}
-use Rattle.exact_math.proofs.RationalRing.{rationals}
+use Rattle.exact_math.specs.RingSolver.{ring, reads}
+use Rattle.exact_math.specs.RationalRing.{rationals}
 use Rattle.exact_math.specs.Rational.{ℚ, whole, frac, ratio, ◌+ℚ◌, ◌*ℚ◌, inv_ℚ, rational_cmp, floor, ceil, round}
 
 third_and_sixth : frac (pos 1) 3 +ℚ frac (pos 1) 6 ≡ frac (pos 1) 2

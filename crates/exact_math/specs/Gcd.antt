@@ -13,6 +13,6 @@ unfoldable pub gcd : ℕ → ℕ → ℕ
 gcd a b = gcd_within b a b
 
 -- the least common multiple: both numbers divide it, and it divides each number that both divide
--- (`Rattle.exact_math.proofs.LcmLaws`); 0 where one of them is 0
+-- (`Rattle.exact_math.specs.LcmLaws`); 0 where one of them is 0
 unfoldable pub lcm : ℕ → ℕ → ℕ
 lcm a b = a / gcd a b * b

@@ -7,3 +7,16 @@ pub mod Rational
 pub mod RationalCode
 pub mod Determinants
 pub mod Ordered
+pub mod IntegerRing
+pub mod IntegerOrder
+pub mod RationalLaws
+pub mod RationalRing
+pub mod RationalOrder
+pub mod RationalFloor
+pub mod QuotientLaws
+pub mod LcmLaws
+pub mod OrderedRing
+pub mod RingLaws
+pub mod RingSolver
+pub mod RingExpressions
+pub mod RationalTests

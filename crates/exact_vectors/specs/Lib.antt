@@ -2,3 +2,10 @@ pub mod Vectors
 pub mod Matrices
 pub mod Inequalities
 pub mod Range
+pub mod DotLaws
+pub mod FlatMatrixLaws
+pub mod InequalityLaws
+pub mod MatrixLaws
+pub mod OrderedVectorLaws
+pub mod RationalInequalityLaws
+pub mod SumLaws

@@ -8,7 +8,7 @@ ghost use Rattle.std.specs.Prelude.{◌≡◌, ℕ, ◌+◌, ◌*◌, ◌<◌, �
 ghost use Rattle.exact_math.specs.Determinants.{difference};
 ghost use Rattle.exact_math.specs.Ring.{Ring, integers};
 ghost use Rattle.exact_math.specs.Rational.{ℚ, whole, ◌≤ℚ◌, ◌<ℚ◌};
-ghost use Rattle.exact_math.proofs.RationalRing.{rationals};
+ghost use Rattle.exact_math.specs.RationalRing.{rationals};
 ghost use Rattle.exact_vectors.specs.Inequalities.{AtMost, NotNegative, NotNegativeBy};
 ghost use Rattle.exact_vectors.specs.Matrices.{HasWidth, column, combination, rows_of, times_matrix, times_vector, transpose};
 ghost use Rattle.exact_vectors.specs.Vectors.{add, dot, scale, sum_below, zeros};

@@ -8,9 +8,9 @@ use Rattle.std.proofs.lemmas.Bool.Decides.{nat_tests}
 use Rattle.std.proofs.lemmas.Cmp.{ranked, int_ranked, by_ranked, tied_itself}
 use Rattle.exact_math.specs.Rational.{ℚ, rational_cmp}
 use Rattle.exact_math.specs.RationalCode.{den_pos, same_terms}
-use Rattle.exact_math.proofs.RationalOrder.{rational_cmp_total, ranked as rational_ranked}
-use Rattle.exact_math.proofs.IntegerOrder.{mul_lt}
-use Rattle.exact_math.proofs.IntegerRing.{linear, mul_comm as mul_comm_ℤ}
+use Rattle.exact_math.specs.RationalOrder.{rational_cmp_total, ranked as rational_ranked}
+use Rattle.exact_math.specs.IntegerOrder.{mul_lt}
+use Rattle.exact_math.specs.IntegerRing.{linear, mul_comm as mul_comm_ℤ}
 use Rattle.frac128.proofs.Terms.{ltb-zero}
 
 -- the answer for a lesser number

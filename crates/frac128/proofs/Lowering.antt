@@ -10,7 +10,7 @@ use Rattle.exact_math.specs.RationalCode.{terms_lowest, den_pos}
 use Rattle.frac128.specs.Range.{IsNarrow, SumInRange}
 use Rattle.frac128.proofs.Terms.{sum_is}
 use Rattle.exact_math.specs.GcdLaws.{gcd_comm, gcd-strip, gcd_dvd_left, gcd_dvd_right, gcd-one_from_dvd, gcd-quotients, gcd_pos_right, gcd-mul-div_right, one_from_dvd, dvd_from_product, quotient_dvd, nat_abs-neg_ℤ}
-use Rattle.exact_math.proofs.IntegerRing.{linear, add_comm}
+use Rattle.exact_math.specs.IntegerRing.{linear, add_comm}
 
 -- what divides two numbers divides their sum
 dvd_abs_add : (g : ℕ) (x y : ℤ) → g ∣ nat_abs x → g ∣ nat_abs y → g ∣ nat_abs (x +ℤ y)

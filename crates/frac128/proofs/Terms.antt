@@ -5,14 +5,14 @@ use Rattle.std.proofs.Common.{Result, OkIff, Err, to_z, of_z}
 use lib.Signed.{mag}
 use Rattle.std.specs.Int.{w128}
 use Rattle.std.proofs.lemmas.Nat.{mul-lt}
-use Rattle.exact_math.proofs.IntegerOrder.{abs_add_le}
+use Rattle.exact_math.specs.IntegerOrder.{abs_add_le}
 use Rattle.std.proofs.lemmas.Int.{fits_signed_from_abs, to_z-of_z}
 use Rattle.exact_math.specs.Gcd.{gcd}
 use Rattle.exact_math.specs.GcdLaws.{gcd-one, gcd-quotients, gcd_pos_right, gcd-mul-div_left, gcd-mul-div_right, nat_abs-neg, gcd-product, gcd-product_right, gcd-one_from_dvd, gcd_comm, quotient_dvd, nat_abs-neg_ℤ, gcd_dvd_left, gcd_dvd_right, reduced_positive}
 use Rattle.exact_math.specs.Rational.{ℚ, frac, ratio, ◌+ℚ◌, ◌*ℚ◌, neg_ℚ, inv_ℚ}
 use Rattle.exact_math.specs.RationalCode.{frac-lowest, frac-self, terms_lowest, den_pos}
-use Rattle.exact_math.proofs.IntegerRing.{expand, linear, mul_neg, neg_mul, neg_neg, zero_add, mul_one}
-use Rattle.exact_math.proofs.RationalLaws.{same_frac}
+use Rattle.exact_math.specs.IntegerRing.{expand, linear, mul_neg, neg_mul, neg_neg, zero_add, mul_one}
+use Rattle.exact_math.specs.RationalLaws.{same_frac}
 use Rattle.frac128.specs.Range.{IsNarrow, InRange, IsReduced, SumInRange}
 use Rattle.frac128.specs.Sign.{with_sign, differ}
 

@@ -4,7 +4,7 @@ use Rattle.std.specs.Cmp.{IsPartialEquivalence, IsEquivalence, IsPartialOrder, p
 use Rattle.std.proofs.lemmas.Cmp.{eq_by_cmp_equiv}
 use Rattle.std.specs.Prelude.{refl}
 use Rattle.exact_math.specs.Rational.{rational_cmp}
-pub use Rattle.exact_math.proofs.RationalOrder.{rational_cmp_total}
+pub use Rattle.exact_math.specs.RationalOrder.{rational_cmp_total}
 
 -- equality as the comparison tells it goes from a number to itself, back, and on to a third
 pub rational_eq_equivalence : IsEquivalence (eq_by_cmp rational_cmp)

@@ -5,10 +5,10 @@ use Rattle.std.proofs.lemmas.Bool.{cond-true, cond-false, eq-eqb, ne_eqb, cases_
 use Rattle.std.proofs.lemmas.List.{get_or_default, append_assoc, map_push}
 use Rattle.std.proofs.lemmas.List.FromFn.{map-range_with_len_more, get_or-map-range_with_len}
 use Rattle.exact_math.specs.Rational.{ℚ, whole, ◌+ℚ◌, ◌*ℚ◌}
-use Rattle.exact_math.proofs.RingLaws as Laws
-use Rattle.exact_math.proofs.RationalRing.{rationals}
-use Rattle.exact_math.proofs.RationalRing as ring
-use Rattle.exact_math.proofs.RationalLaws.{num_zero}
+use Rattle.exact_math.specs.RingLaws as Laws
+use Rattle.exact_math.specs.RationalRing.{rationals}
+use Rattle.exact_math.specs.RationalRing as ring
+use Rattle.exact_math.specs.RationalLaws.{num_zero}
 use Rattle.frac128.specs.Range.{ProductInRange}
 use Rattle.int_model.specs.declared.model.Item.{Item}
 use Rattle.int_model.specs.IntegerRows.{coefficient_of, coefficients_of, IsDistinctBelow}

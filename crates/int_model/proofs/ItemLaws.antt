@@ -11,9 +11,9 @@ use Rattle.std.proofs.lemmas.List.{map_more, take-map, length-map, get_or-map}
 use Rattle.exact_math.specs.Gcd.{gcd, lcm}
 use Rattle.exact_math.specs.GcdLaws.{gcd_dvd_left, gcd_dvd_right, dvd_gcd, gcd_below}
 use Rattle.exact_math.specs.Rational.{ℚ, whole, ratio}
-use Rattle.exact_math.proofs.IntegerRing.{linear}
-use Rattle.exact_math.proofs.RationalFloor.{whole-is}
-use Rattle.exact_math.proofs.LcmLaws.{lcm_dvd}
+use Rattle.exact_math.specs.IntegerRing.{linear}
+use Rattle.exact_math.specs.RationalFloor.{whole-is}
+use Rattle.exact_math.specs.LcmLaws.{lcm_dvd}
 use Rattle.frac128.specs.Range.{InRange}
 use Rattle.frac128.specs.declared.narrow.Wide.{Wide}
 use Rattle.int_model.specs.declared.model.Item.{Item}

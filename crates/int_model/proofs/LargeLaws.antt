@@ -9,8 +9,8 @@ use Rattle.std.proofs.lemmas.List.{length-map}
 use Rattle.std.proofs.lemmas.List.FromFn.{length-map-range_with_len}
 use Rattle.exact_math.specs.Gcd.{lcm}
 use Rattle.exact_math.specs.Rational.{ℚ, whole, ◌*ℚ◌}
-use Rattle.exact_math.proofs.RationalLaws.{den_pos}
-use Rattle.exact_math.proofs.LcmLaws.{dvd_lcm_left, dvd_lcm_right, lcm_dvd}
+use Rattle.exact_math.specs.RationalLaws.{den_pos}
+use Rattle.exact_math.specs.LcmLaws.{dvd_lcm_left, dvd_lcm_right, lcm_dvd}
 use Rattle.int_model.specs.declared.bounds.Bounds.{Bounds}
 use Rattle.int_model.specs.WholeRows.{WholeRow, reach, span, size_of_side, weight}
 use Rattle.int_model.specs.Scale.{common_denominator, scale, scaled, FractionRow, integer_row}

@@ -4,7 +4,7 @@ use Rattle.std.specs.Prelude.{SomeIff}
 use Rattle.std.specs.Int.{w128}
 use Rattle.exact_math.specs.Gcd.{gcd, lcm}
 use Rattle.exact_math.specs.GcdLaws.{gcd_pos_left}
-use Rattle.exact_math.proofs.IntegerRing.{linear}
+use Rattle.exact_math.specs.IntegerRing.{linear}
 use Rattle.int_model.specs.ObjectiveValues.{value_factor}
 
 -- the quotient by the greatest common divisor, times the other number

@@ -7,15 +7,15 @@ use Rattle.std.proofs.lemmas.List.{length-map}
 use Rattle.exact_math.specs.Gcd.{gcd, lcm}
 use Rattle.exact_math.specs.GcdLaws.{gcd_dvd_left, gcd_dvd_right, gcd-zero}
 use Rattle.exact_math.specs.Rational.{ℚ, whole, frac, ratio, inv_ℚ, ◌*ℚ◌}
-use Rattle.exact_math.proofs.IntegerRing.{expand, linear}
-use Rattle.exact_math.proofs.IntegerOrder.{abs_mul}
-use Rattle.exact_math.proofs.RationalLaws.{frac-mul, same_frac, whole-frac, num_zero}
-use Rattle.exact_math.proofs.RationalRing.{rationals, mul_inv}
-use Rattle.exact_math.proofs.RationalRing as ring
-use Rattle.exact_math.proofs.RingLaws as Laws
-use Rattle.exact_math.proofs.RationalOrder as order
-use Rattle.exact_math.proofs.RationalFloor.{whole-is}
-use Rattle.exact_math.proofs.LcmLaws.{dvd_lcm_left, dvd_lcm_right}
+use Rattle.exact_math.specs.IntegerRing.{expand, linear}
+use Rattle.exact_math.specs.IntegerOrder.{abs_mul}
+use Rattle.exact_math.specs.RationalLaws.{frac-mul, same_frac, whole-frac, num_zero}
+use Rattle.exact_math.specs.RationalRing.{rationals, mul_inv}
+use Rattle.exact_math.specs.RationalRing as ring
+use Rattle.exact_math.specs.RingLaws as Laws
+use Rattle.exact_math.specs.RationalOrder as order
+use Rattle.exact_math.specs.RationalFloor.{whole-is}
+use Rattle.exact_math.specs.LcmLaws.{dvd_lcm_left, dvd_lcm_right}
 use Rattle.frac128.specs.Range.{ProductInRange}
 use Rattle.int_model.specs.declared.bounds.Bounds.{Bounds}
 use Rattle.int_model.specs.declared.model.Item.{Item}

@@ -5,12 +5,12 @@ use Rattle.std.proofs.lemmas.List.Elements.{All-nil, All-cons, All-head, All-tai
 use Rattle.std.proofs.lemmas.Bool.{cond-true, cond-false, eq-eqb, ne_eqb}
 use Rattle.std.proofs.lemmas.Slice.Zip.{AllZip-long}
 use Rattle.exact_math.specs.Rational.{ℚ, whole, ◌+ℚ◌, ◌*ℚ◌, neg_ℚ, inv_ℚ, ◌≤ℚ◌, floor, ceil}
-use Rattle.exact_math.proofs.RingLaws as Laws
-use Rattle.exact_math.proofs.RationalRing.{rationals, mul_inv}
-use Rattle.exact_math.proofs.RationalRing as ring
-use Rattle.exact_math.proofs.RationalOrder as order
-use Rattle.exact_math.proofs.RationalFloor.{floor_le, le_floor, le_ceil, ceil_le}
-use Rattle.exact_math.proofs.RingSolver.{ring as solve, reads}
+use Rattle.exact_math.specs.RingLaws as Laws
+use Rattle.exact_math.specs.RationalRing.{rationals, mul_inv}
+use Rattle.exact_math.specs.RationalRing as ring
+use Rattle.exact_math.specs.RationalOrder as order
+use Rattle.exact_math.specs.RationalFloor.{floor_le, le_floor, le_ceil, ceil_le}
+use Rattle.exact_math.specs.RingSolver.{ring as solve, reads}
 use Rattle.int_model.specs.declared.model.Item.{Item}
 use Rattle.int_model.specs.declared.model.Column.{Column}
 use Rattle.int_model.specs.declared.model.Row.{Row}

@@ -10,9 +10,9 @@ use Rattle.std.proofs.lemmas.Bool.{eqb-true, ne_eqb}
 use Rattle.std.proofs.lemmas.List.{drop_at, take_all, length-append, length-map}
 use Rattle.std.proofs.lemmas.List.Elements.{All-nil, All-cons, All-get_or}
 use Rattle.exact_math.specs.Rational.{ℚ, whole, ◌*ℚ◌, floor, ceil}
-use Rattle.exact_math.proofs.IntegerRing.{linear}
-use Rattle.exact_math.proofs.RationalLaws.{zero_from_num, num_zero}
-use Rattle.exact_math.proofs.RationalFloor.{whole-is}
+use Rattle.exact_math.specs.IntegerRing.{linear}
+use Rattle.exact_math.specs.RationalLaws.{zero_from_num, num_zero}
+use Rattle.exact_math.specs.RationalFloor.{whole-is}
 use Rattle.int_model.specs.declared.bounds.Bounds.{Bounds}
 use Rattle.int_model.specs.declared.model.Item.{Item}
 use Rattle.int_model.specs.declared.scales.RowScale.{RowScale}

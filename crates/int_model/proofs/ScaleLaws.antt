@@ -11,17 +11,17 @@ use Rattle.exact_math.specs.Gcd.{gcd}
 use Rattle.exact_math.specs.GcdLaws.{gcd_dvd_left, gcd_dvd_right, dvd_gcd, gcd_comm, gcd-mul_left, gcd-mul-div_left, gcd-mul-div_right, gcd_pos_right, dvd_from_product, gcd-zero}
 use Rattle.exact_math.specs.Ring.{integers}
 use Rattle.exact_math.specs.Rational.{ℚ, whole, frac, ◌+ℚ◌, ◌*ℚ◌, inv_ℚ, ◌≤ℚ◌, ◌<ℚ◌, floor, ceil}
-use Rattle.exact_math.proofs.IntegerRing.{expand, linear, mul_neg}
-use Rattle.exact_math.proofs.IntegerOrder.{abs_mul, mul_pos}
-use Rattle.exact_math.proofs.RationalLaws.{den_pos, terms_lowest, frac-self, frac-mul, frac_is, whole-frac, same_from_cross, cross_from_same, zero_from_num, num_zero}
-use Rattle.exact_math.proofs.RationalRing.{rationals, mul_inv}
-use Rattle.exact_math.proofs.RationalRing as ring
-use Rattle.exact_math.proofs.RationalOrder as order
-use Rattle.exact_math.proofs.RationalFloor.{floor_le, le_floor, le_ceil, ceil_le}
-use Rattle.exact_math.proofs.LcmLaws.{dvd_lcm_left, dvd_lcm_right, lcm_dvd, lcm_pos}
-use Rattle.exact_math.proofs.RingSolver.{ring as solve, reads}
+use Rattle.exact_math.specs.IntegerRing.{expand, linear, mul_neg}
+use Rattle.exact_math.specs.IntegerOrder.{abs_mul, mul_pos}
+use Rattle.exact_math.specs.RationalLaws.{den_pos, terms_lowest, frac-self, frac-mul, frac_is, whole-frac, same_from_cross, cross_from_same, zero_from_num, num_zero}
+use Rattle.exact_math.specs.RationalRing.{rationals, mul_inv}
+use Rattle.exact_math.specs.RationalRing as ring
+use Rattle.exact_math.specs.RationalOrder as order
+use Rattle.exact_math.specs.RationalFloor.{floor_le, le_floor, le_ceil, ceil_le}
+use Rattle.exact_math.specs.LcmLaws.{dvd_lcm_left, dvd_lcm_right, lcm_dvd, lcm_pos}
+use Rattle.exact_math.specs.RingSolver.{ring as solve, reads}
 use Rattle.exact_vectors.specs.Vectors.{dot}
-use Rattle.exact_vectors.proofs.Dot.{dot-scale_left}
+use Rattle.exact_vectors.specs.DotLaws.{dot-scale_left}
 use Rattle.int_model.specs.Scale.{common_divisor, common_denominator, common_numerator, over_or_one, scale, scaled, FractionRow, sum_at, MeetsFractionRow, integer_row}
 use Rattle.int_model.specs.WholeRows.{MeetsRow}
 

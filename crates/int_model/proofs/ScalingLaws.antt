@@ -11,11 +11,11 @@ use Rattle.std.proofs.lemmas.List.Elements.{All-head, All-tail}
 use Rattle.exact_math.specs.Gcd.{gcd}
 use Rattle.exact_math.specs.GcdLaws.{gcd_dvd_left, gcd_dvd_right, dvd_gcd, gcd_comm, gcd-zero_left}
 use Rattle.exact_math.specs.Rational.{ℚ, whole, frac, ◌*ℚ◌}
-use Rattle.exact_math.proofs.IntegerRing.{expand, linear}
-use Rattle.exact_math.proofs.RationalLaws.{den_pos, whole-frac, num_zero}
-use Rattle.exact_math.proofs.RationalRing as ring
-use Rattle.exact_math.proofs.RationalFloor.{whole_from_den}
-use Rattle.exact_math.proofs.LcmLaws.{dvd_lcm_left, dvd_lcm_right, whole_multiple}
+use Rattle.exact_math.specs.IntegerRing.{expand, linear}
+use Rattle.exact_math.specs.RationalLaws.{den_pos, whole-frac, num_zero}
+use Rattle.exact_math.specs.RationalRing as ring
+use Rattle.exact_math.specs.RationalFloor.{whole_from_den}
+use Rattle.exact_math.specs.LcmLaws.{dvd_lcm_left, dvd_lcm_right, whole_multiple}
 use Rattle.frac128.specs.Range.{IsNarrow, InRange, ProductInRange}
 use Rattle.int_model.specs.declared.bounds.Bounds.{Bounds}
 use Rattle.int_model.specs.WholeRows.{reach, span}

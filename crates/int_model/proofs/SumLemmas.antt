@@ -4,8 +4,8 @@ use Rattle.std.specs.Int.{w128}
 use Rattle.std.proofs.lemmas.List.{drop_more}
 use Rattle.std.proofs.lemmas.Int.{fits_signed_from_abs}
 use Rattle.exact_math.specs.Ring.{integers}
-use Rattle.exact_math.proofs.IntegerRing.{linear, add_assoc}
-use Rattle.exact_math.proofs.IntegerOrder.{abs_mul, abs_add_le}
+use Rattle.exact_math.specs.IntegerRing.{linear, add_assoc}
+use Rattle.exact_math.specs.IntegerOrder.{abs_mul, abs_add_le}
 use Rattle.exact_vectors.specs.Vectors.{dot}
 use Rattle.std.proofs.Math.Nat.{mul-le-mul_left}
 use Rattle.int_model.specs.declared.bounds.Bounds.{Bounds}

@@ -5,9 +5,9 @@ use Rattle.exact_math.specs.Gcd.{gcd}
 use Rattle.exact_math.specs.GcdLaws.{nat_abs-int_div}
 use Rattle.exact_math.specs.Ring.{integers}
 use Rattle.exact_math.specs.Rational.{whole, frac, ratio, ◌+ℚ◌, ◌*ℚ◌}
-use Rattle.exact_math.proofs.IntegerRing.{expand, linear}
-use Rattle.exact_math.proofs.IntegerOrder.{abs_mul, abs_add_le}
-use Rattle.exact_math.proofs.RationalLaws.{frac-add, frac-mul, same_frac, whole-frac}
+use Rattle.exact_math.specs.IntegerRing.{expand, linear}
+use Rattle.exact_math.specs.IntegerOrder.{abs_mul, abs_add_le}
+use Rattle.exact_math.specs.RationalLaws.{frac-add, frac-mul, same_frac, whole-frac}
 use Rattle.exact_vectors.specs.Vectors.{dot}
 use Rattle.frac128.specs.Range.{InRange}
 use Rattle.int_model.specs.declared.bounds.Bounds.{Bounds}

@@ -4,8 +4,8 @@ use Rattle.std.specs.Prelude.{Some, None}
 use Rattle.std.specs.List.{Any}
 use Rattle.exact_math.specs.Gcd.{gcd, gcd_within, lcm}
 use Rattle.exact_math.specs.Rational.{whole, frac, ratio, inv_ℚ, ◌+ℚ◌, ◌*ℚ◌}
-use Rattle.exact_math.proofs.IntegerRing.{linear}
-use Rattle.exact_math.proofs.RationalLaws.{num_zero}
+use Rattle.exact_math.specs.IntegerRing.{linear}
+use Rattle.exact_math.specs.RationalLaws.{num_zero}
 use Rattle.frac128.specs.Range.{InRange}
 use Rattle.int_model.specs.declared.bounds.Bounds.{Bounds}
 use Rattle.int_model.specs.declared.model.Row.{Row}

@@ -3,7 +3,7 @@ use Rattle.std.specs.Prelude.{ℕ, zero, suc, ℤ, pos, List, [], ◌∷◌, map
 use Rattle.std.specs.Option.{option_map}
 use Rattle.exact_math.specs.Gcd.{gcd, lcm}
 use Rattle.exact_math.specs.Rational.{ℚ, whole, frac, ◌*ℚ◌, ◌≤ℚ◌, floor, ceil}
-use Rattle.exact_math.proofs.RationalRing.{rationals}
+use Rattle.exact_math.specs.RationalRing.{rationals}
 use Rattle.exact_vectors.specs.Vectors.{dot}
 use Rattle.int_model.specs.WholeRows.{WholeRow}
 

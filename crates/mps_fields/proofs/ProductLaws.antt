@@ -2,8 +2,8 @@
 use Rattle.std.proofs.Common.{◌≡◌, ℕ, zero, suc, ◌+◌, ◌-◌, ◌*◌, ◌^◌, ◌<◌, ◌≤◌, Bool, true, false, true≢false, ◌||◌, IsTrue, eqb, ℤ, pos, negsuc, neg_ℤ, ◌*ℤ◌, ◌-ℤ◌, nat_abs, Option, Some, None, SomeIff, refl, sym, ap, subst, ◌∙◌, arith}
 use Rattle.std.proofs.lemmas.Bool.{eqb-true, ltb-true, leb-true, lt-ltb, le-leb}
 use Rattle.exact_math.specs.Rational.{ℚ, frac, whole}
-use Rattle.exact_math.proofs.IntegerRing.{linear, neg_mul, mul_one, zero_mul}
-use Rattle.exact_math.proofs.RationalLaws.{whole-frac, same_frac}
+use Rattle.exact_math.specs.IntegerRing.{linear, neg_mul, mul_one, zero_mul}
+use Rattle.exact_math.specs.RationalLaws.{whole-frac, same_frac}
 use Rattle.frac128.specs.Sign.{with_sign}
 use Rattle.mps_fields.proofs.FractionLaws.{nat_abs-with_sign}
 use Rattle.mps_fields.specs.Decimal.{scaled, fits_scaled, fits_product}

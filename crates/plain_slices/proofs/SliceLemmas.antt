@@ -4,8 +4,8 @@ use Rattle.std.specs.Prelude.{Some, None, IfSome}
 use Rattle.std.proofs.lemmas.List.{set-set, set-get_or, take_more_set}
 use Rattle.std.proofs.lemmas.List.Elements.{All-head, All-tail, All-push}
 use Rattle.exact_math.specs.Ring.{integers}
-use Rattle.exact_math.proofs.IntegerRing.{linear}
-use Rattle.exact_math.proofs.IntegerOrder.{le_trans}
+use Rattle.exact_math.specs.IntegerRing.{linear}
+use Rattle.exact_math.specs.IntegerOrder.{le_trans}
 use Rattle.exact_vectors.specs.Vectors.{dot}
 use Rattle.int_model.specs.declared.bounds.Bounds.{Bounds}
 use Rattle.int_model.specs.WholeRows.{WholeRow, WholeRows, LiesIn, MeetsRow, Meets, reach, span}

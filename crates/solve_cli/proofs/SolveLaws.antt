@@ -4,7 +4,7 @@ use Rattle.std.specs.Prelude.{◌==◌, ◌≢◌, true, false, IfSome, IfOk, Re
 use Rattle.std.proofs.lemmas.Bool.{cases_lt, eqb-true, false≢true}
 use Rattle.std.proofs.lemmas.List.{take_all, length-take-le}
 use Rattle.exact_math.specs.Rational.{whole, ◌+ℚ◌, ◌≤ℚ◌}
-use Rattle.exact_math.proofs.RationalOrder.{le_refl}
+use Rattle.exact_math.specs.RationalOrder.{le_refl}
 use Rattle.int_model.specs.declared.part.Part.{Part}
 use Rattle.int_model.specs.declared.part.Part.TheVariants as parts
 use Rattle.int_model.specs.declared.model.Model.{Model}

@@ -1,5 +1,5 @@
-use Rattle.exact_vectors.proofs.Sums as Sums
-use Rattle.exact_vectors.proofs.Dot as Dot
+use Rattle.exact_vectors.specs.SumLaws as Sums
+use Rattle.exact_vectors.specs.DotLaws as Dot
 use Rattle.exact_vectors.proofs.dot_product_laws.Goals as goal
 
 pub returns-clause-symmetric : goal.returns-clause-symmetric

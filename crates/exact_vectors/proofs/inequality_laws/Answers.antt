@@ -1,5 +1,5 @@
-use Rattle.exact_vectors.proofs.Inequalities as Inequalities
-use Rattle.exact_vectors.proofs.RationalInequalities as RationalInequalities
+use Rattle.exact_vectors.specs.InequalityLaws as Inequalities
+use Rattle.exact_vectors.specs.RationalInequalityLaws as RationalInequalities
 use Rattle.exact_vectors.proofs.inequality_laws.Goals as goal
 
 pub returns-clause-combined : goal.returns-clause-combined

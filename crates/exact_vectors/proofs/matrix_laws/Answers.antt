@@ -1,5 +1,5 @@
-use Rattle.exact_vectors.proofs.FlatMatrices as FlatMatrices
-use Rattle.exact_vectors.proofs.Matrices as Matrices
+use Rattle.exact_vectors.specs.FlatMatrixLaws as FlatMatrices
+use Rattle.exact_vectors.specs.MatrixLaws as Matrices
 use Rattle.exact_vectors.proofs.matrix_laws.Goals as goal
 
 pub returns-clause-transposed : goal.returns-clause-transposed

@@ -1,5 +1,5 @@
 use Rattle.exact_math.specs.GcdLaws.{gcd-is, dvd_from_product, same_lowest}
-use Rattle.exact_math.proofs.QuotientLaws.{floor_div_below, floor_div_above}
+use Rattle.exact_math.specs.QuotientLaws.{floor_div_below, floor_div_above}
 use Rattle.exact_math.proofs.rationals.divisors.Goals as goal
 
 pub returns : goal.returns

@@ -1,6 +1,6 @@
-use Rattle.exact_math.proofs.RationalLaws.{same_frac, frac-self}
-use Rattle.exact_math.proofs.RationalRing as ring
-use Rattle.exact_math.proofs.RationalOrder as order
+use Rattle.exact_math.specs.RationalLaws.{same_frac, frac-self}
+use Rattle.exact_math.specs.RationalRing as ring
+use Rattle.exact_math.specs.RationalOrder as order
 use Rattle.exact_math.proofs.rationals.rational_numbers.Goals as goal
 
 pub returns : goal.returns

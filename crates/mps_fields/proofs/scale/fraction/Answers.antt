@@ -2,7 +2,7 @@ use Rattle.std.proofs.Common.{sym, ap, ◌∙◌}
 use Rattle.std.specs.Result.{is_ok}
 use Rattle.std.specs.Int.{w128}
 use Rattle.std.proofs.lemmas.Int.{to_z_pos}
-use Rattle.exact_math.proofs.RationalLaws.{pos-ne-zero}
+use Rattle.exact_math.specs.RationalLaws.{pos-ne-zero}
 use Rattle.mps_fields.proofs.FractionLaws.{passed, is_made}
 use Rattle.mps_fields.proofs.scale.fraction.Goals as goal
 

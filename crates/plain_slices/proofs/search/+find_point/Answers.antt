@@ -3,7 +3,7 @@ use Rattle.std.specs.Int.{w128}
 use Rattle.std.proofs.lemmas.Int.{to_z-of_z, ints}
 use Rattle.std.proofs.lemmas.List.{take_all, set-set}
 use Rattle.std.proofs.lemmas.Slice.Zip.{AllZip-long}
-use Rattle.exact_math.proofs.IntegerRing.{linear}
+use Rattle.exact_math.specs.IntegerRing.{linear}
 use Rattle.plain_slices.specs.Slices.{AllFixed}
 use Rattle.plain_slices.proofs.SliceLemmas.{IsSlicedTo-none, IsSlicedTo-more, IsSlicedTo-all, slice-of, at, fixed_at, IsNarrowed-set, AllFixed-set, LiesIn-lows, LiesIn-narrowed}
 use Rattle.plain_slices.proofs.search.+find_point.Goals as goal

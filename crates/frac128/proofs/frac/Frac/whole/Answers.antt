@@ -1,7 +1,7 @@
 use Rattle.std.proofs.Common.{◌∙◌, sym, FitsSigned}
 use Rattle.std.specs.Int.{w128}
 use Rattle.std.proofs.lemmas.Int.{to_z-of_z}
-use Rattle.exact_math.proofs.RationalLaws.{whole-frac}
+use Rattle.exact_math.specs.RationalLaws.{whole-frac}
 use Rattle.frac128.proofs.Terms.{whole_made}
 use Rattle.frac128.proofs.frac.Frac.whole.Goals as goal
 

@@ -1,7 +1,7 @@
 use Rattle.std.proofs.Common.{sym, ap, ◌∙◌}
 use Rattle.exact_math.specs.Rational.{◌*ℚ◌}
-use Rattle.exact_math.proofs.RationalRing.{rationals}
-use Rattle.exact_math.proofs.RingLaws as Laws
+use Rattle.exact_math.specs.RationalRing.{rationals}
+use Rattle.exact_math.specs.RingLaws as Laws
 use Rattle.int_model.proofs.scales.RowScale.product.Goals as goal
 
 pub returns-then-self-clause-value : goal.returns-then-self-clause-value

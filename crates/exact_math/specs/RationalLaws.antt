@@ -4,8 +4,8 @@ use Rattle.exact_math.specs.Gcd.{gcd}
 use Rattle.exact_math.specs.GcdLaws.{same_lowest, gcd-mul-div_left, gcd-mul-div_right, nat_abs-neg}
 use Rattle.exact_math.specs.Rational.{ℚ, whole, frac, ratio, ◌+ℚ◌, neg_ℚ, ◌*ℚ◌}
 pub use Rattle.exact_math.specs.RationalCode.{same_terms, den_pos, terms_lowest, frac-lowest, frac-self}
-use Rattle.exact_math.proofs.IntegerRing.{expand, linear, neg_mul}
-use Rattle.exact_math.proofs.IntegerOrder.{mul_cancel}
+use Rattle.exact_math.specs.IntegerRing.{expand, linear, neg_mul}
+use Rattle.exact_math.specs.IntegerOrder.{mul_cancel}
 
 -- ---- equal numbers have equal terms
 

@@ -6,8 +6,8 @@ use Rattle.std.proofs.lemmas.Int.{unsigned_abs-mul}
 use Rattle.exact_math.specs.Gcd.{gcd, lcm}
 use Rattle.exact_math.specs.GcdLaws.{gcd-mul-div_left, gcd-mul-div_right, gcd_pos_right, gcd-quotients, gcd_comm, dvd_from_product}
 use Rattle.exact_math.specs.Rational.{ℚ, whole, frac, ◌*ℚ◌, IsWhole}
-use Rattle.exact_math.proofs.IntegerRing.{expand, linear}
-use Rattle.exact_math.proofs.RationalLaws.{den_pos, terms_lowest, frac-self, frac-mul, whole-frac, frac_is, frac-cross}
+use Rattle.exact_math.specs.IntegerRing.{expand, linear}
+use Rattle.exact_math.specs.RationalLaws.{den_pos, terms_lowest, frac-self, frac-mul, whole-frac, frac_is, frac-cross}
 
 -- the second number divides it
 pub dvd_lcm_right : (a b : ℕ) → b ∣ lcm a b

@@ -1,8 +1,8 @@
 -- Quotients rounded down, up and to the nearest whole number: what they are bounded by, and that no other number is.
 use Rattle.std.proofs.Common.{◌≡◌, ℕ, ◌*◌, ◌<◌, ◌≤◌, nat_abs, ℤ, pos, negsuc, ◌+ℤ◌, ◌-ℤ◌, ◌*ℤ◌, neg_ℤ, ◌≤ℤ◌, ◌<ℤ◌, refl, arith, div-add-mod', mod-lt}
 use Rattle.exact_math.specs.Quotient.{floor_div, ceil_div, round_div}
-use Rattle.exact_math.proofs.IntegerRing.{expand, linear, neg_mul}
-use Rattle.exact_math.proofs.IntegerOrder.{le_antisym, lt_of_mul_lt, abs_le}
+use Rattle.exact_math.specs.IntegerRing.{expand, linear, neg_mul}
+use Rattle.exact_math.specs.IntegerOrder.{le_antisym, lt_of_mul_lt, abs_le}
 
 -- the next multiple of the divisor
 next_multiple : (n q d : ℤ) → n <ℤ (q *ℤ d +ℤ d) → n <ℤ ((q +ℤ pos 1) *ℤ d)

@@ -2,8 +2,8 @@
 use Rattle.std.proofs.Common.{◌≡◌, ◌≢◌, ℕ, zero, suc, ◌*◌, ◌<◌, ℤ, pos, negsuc, ◌+ℤ◌, ◌*ℤ◌, neg_ℤ, refl, sym, ap, ap₂, ◌∙◌, arith, mul-pos}
 use Rattle.exact_math.specs.Ring.{Ring}
 use Rattle.exact_math.specs.Rational.{ℚ, whole, frac, ratio, ◌+ℚ◌, neg_ℚ, ◌*ℚ◌, inv_ℚ, ◌/ℚ◌}
-use Rattle.exact_math.proofs.IntegerRing.{expand, linear}
-use Rattle.exact_math.proofs.RationalLaws.{num_zero, by_frac, same_frac, frac-add, frac-mul, frac-neg, frac-self, whole-frac, den_pos, zero_from_num}
+use Rattle.exact_math.specs.IntegerRing.{expand, linear}
+use Rattle.exact_math.specs.RationalLaws.{num_zero, by_frac, same_frac, frac-add, frac-mul, frac-neg, frac-self, whole-frac, den_pos, zero_from_num}
 
 -- ---- the identities of whole numbers behind the laws
 

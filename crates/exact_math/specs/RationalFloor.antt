@@ -1,9 +1,9 @@
 -- The floor and the ceiling of a rational number against the order, and numbers that are whole.
 use Rattle.std.proofs.Common.{◌≡◌, ℤ, pos, ◌+ℤ◌, ◌-ℤ◌, ◌*ℤ◌, ◌≤ℤ◌, refl, sym, subst}
 use Rattle.exact_math.specs.Rational.{ℚ, whole, ◌≤ℚ◌, ◌<ℚ◌, floor, ceil, IsWhole}
-use Rattle.exact_math.proofs.IntegerRing.{linear}
-use Rattle.exact_math.proofs.QuotientLaws.{floor_div_below, floor_div_above, le_floor_div, ceil_div_above, ceil_div_le, ceil_div_below}
-use Rattle.exact_math.proofs.RationalLaws.{den_pos, same_from_cross}
+use Rattle.exact_math.specs.IntegerRing.{linear}
+use Rattle.exact_math.specs.QuotientLaws.{floor_div_below, floor_div_above, le_floor_div, ceil_div_above, ceil_div_le, ceil_div_below}
+use Rattle.exact_math.specs.RationalLaws.{den_pos, same_from_cross}
 
 -- the floor is at most the number ..
 pub floor_le : (q : ℚ) → whole (floor q) ≤ℚ q

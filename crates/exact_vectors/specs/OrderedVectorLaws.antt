@@ -3,12 +3,12 @@ use Rattle.std.proofs.Common.{◌≡◌, ℕ, suc, pos, List, [], ◌∷◌, ap,
 use Rattle.std.specs.List.{AllZip}
 use Rattle.exact_math.specs.Ordered.{IsOrdered}
 use Rattle.exact_math.specs.Ring.{Ring}
-use Rattle.exact_math.proofs.OrderedRing as Ordered
+use Rattle.exact_math.specs.OrderedRing as Ordered
 use Rattle.exact_vectors.specs.Vectors.{dot, zeros}
 use Rattle.exact_vectors.specs.Matrices.{HasWidth, times_vector, combination}
 use Rattle.exact_vectors.specs.Inequalities.{NotNegativeBy}
-use Rattle.exact_vectors.proofs.Dot as Dot
-use Rattle.exact_vectors.proofs.Matrices as Matrices
+use Rattle.exact_vectors.specs.DotLaws as Dot
+use Rattle.exact_vectors.specs.MatrixLaws as Matrices
 
 module _ {A : Type 0} (r : Ring A) (Le : A → A → Type 0) (o : IsOrdered r Le) where
   -- the first item of a list with none negative

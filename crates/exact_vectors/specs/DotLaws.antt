@@ -2,8 +2,8 @@
 use Rattle.std.proofs.Common.{◌≡◌, ℕ, zero, suc, ◌+◌, ◌<◌, ◌≤◌, ℤ, pos, negsuc, ◌+ℤ◌, ◌*ℤ◌, List, [], ◌∷◌, ◌++◌, length, get_or, drop, take, set, refl, sym, ap, ◌∙◌, arith, add-one, drop-cons}
 use Rattle.exact_math.specs.Ring.{Ring, integers}
 use Rattle.exact_math.specs.Determinants.{difference}
-use Rattle.exact_math.proofs.RingLaws as Laws
-use Rattle.exact_math.proofs.RingSolver.{ring, reads}
+use Rattle.exact_math.specs.RingLaws as Laws
+use Rattle.exact_math.specs.RingSolver.{ring, reads}
 use Rattle.exact_vectors.specs.Vectors.{dot, scale, negate, add, zeros}
 
 -- over the whole numbers the first products come off the front

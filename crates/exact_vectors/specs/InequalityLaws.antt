@@ -1,12 +1,12 @@
 -- Dot products and inequalities over the whole numbers: a combination of inequalities with multipliers that are not negative is an inequality, weak duality, and the easy half of Farkas' lemma. `proofs/OrderedVectors.antt` has them over any ordered ring.
 use Rattle.std.proofs.Common.{◌≡◌, ℕ, suc, ◌*◌, ◌≤◌, ℤ, pos, ◌*ℤ◌, nat_abs, ◌≤ℤ◌, ◌<ℤ◌, List, [], ◌∷◌, length, arith, All}
 use Rattle.exact_math.specs.Ring.{integers}
-use Rattle.exact_math.proofs.IntegerRing.{linear}
-use Rattle.exact_math.proofs.IntegerOrder as Order
+use Rattle.exact_math.specs.IntegerRing.{linear}
+use Rattle.exact_math.specs.IntegerOrder as Order
 use Rattle.exact_vectors.specs.Vectors.{dot, zeros}
 use Rattle.exact_vectors.specs.Matrices.{HasWidth, times_vector, combination}
 use Rattle.exact_vectors.specs.Inequalities.{NotNegative, AtMost}
-use Rattle.exact_vectors.proofs.OrderedVectors as Ordered
+use Rattle.exact_vectors.specs.OrderedVectorLaws as Ordered
 
 -- the dot product of lists with no item negative is not negative
 pub dot_nonneg : (v w : List ℤ) → NotNegative v → NotNegative w → pos 0 ≤ℤ dot integers v w

@@ -1,8 +1,8 @@
 -- The normal form means what the expression means, so two expressions with one normal form are equal over any commutative ring. `ring` proves an identity in one line: it takes the ring, the list of the atoms, two calls of `search reads`, and `refl`.
 use Rattle.std.proofs.Common.{◌≡◌, ℕ, zero, suc, ℤ, pos, negsuc, ◌+ℤ◌, ◌*ℤ◌, nat_abs, Bool, true, false, eqb, ltb, List, [], ◌∷◌, refl, sym, ap, ◌∙◌, subst, ap₂, eqb-true}
 use Rattle.exact_math.specs.Ring.{Ring}
-use Rattle.exact_math.proofs.RingLaws as Laws
-use Rattle.exact_math.proofs.RingExpressions.{Expression, atom, number, plus, times, minus, atom_at, value, Term, product_of, term_value, sum_of, Place, earlier, same, later, place, join_factors, multiply_factors, put_term, join_terms, add_sums, multiply_terms, scale_sum, multiply_sums, normal}
+use Rattle.exact_math.specs.RingLaws as Laws
+use Rattle.exact_math.specs.RingExpressions.{Expression, atom, number, plus, times, minus, atom_at, value, Term, product_of, term_value, sum_of, Place, earlier, same, later, place, join_factors, multiply_factors, put_term, join_terms, add_sums, multiply_terms, scale_sum, multiply_sums, normal}
 
 -- what holds of both answers of a choice holds of the choice
 of_choice : {X : Type 0} (P : X → Type 0) (b : Bool) (x y : X) → P x → P y → P (elim b [ true ↦ x | false ↦ y ])

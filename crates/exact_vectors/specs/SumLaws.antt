@@ -1,8 +1,8 @@
 -- The laws of sums over any commutative ring: of a list's items, and of a function over the indices below a number.
 use Rattle.std.proofs.Common.{◌≡◌, ℕ, zero, suc, ◌<◌, ◌≤◌, pos, List, [], ◌∷◌, ◌++◌, length, get_or, refl, sym, ap, ◌∙◌, arith}
 use Rattle.exact_math.specs.Ring.{Ring}
-use Rattle.exact_math.proofs.RingLaws as Laws
-use Rattle.exact_math.proofs.RingSolver.{ring, reads}
+use Rattle.exact_math.specs.RingLaws as Laws
+use Rattle.exact_math.specs.RingSolver.{ring, reads}
 use Rattle.exact_vectors.specs.Vectors.{dot, sum, scale, negate, add, zeros, sum_below}
 
 module _ {A : Type 0} (r : Ring A) where

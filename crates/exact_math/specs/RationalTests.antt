@@ -2,7 +2,7 @@
 use Rattle.std.proofs.Common.{◌≡◌, Bool, true, false, not, true≢false, Less, Equal, Greater, Ordering, Decides, refl, sym, ap, ◌∙◌, subst}
 use Rattle.std.specs.Ordering.{is_lt, is_le, is_gt, is_ge, is_eq, MatchOrdering}
 use Rattle.exact_math.specs.Rational.{ℚ, ◌≤ℚ◌, ◌<ℚ◌, rational_cmp}
-use Rattle.exact_math.proofs.RationalOrder.{ranked, le_refl, le_of_lt, not_le_of_lt}
+use Rattle.exact_math.specs.RationalOrder.{ranked, le_refl, le_of_lt, not_le_of_lt}
 
 -- the fact of a test, from what each of the three answers says
 by_answer : (test : Ordering → Bool) (o : Ordering) (A B C P : Type 0) → MatchOrdering o A B C → (A → test Less ≡ true → P) → (B → test Equal ≡ true → P) → (C → test Greater ≡ true → P) → test o ≡ true → P

@@ -3,7 +3,7 @@ use Rattle.std.proofs.Common.{◌≡◌, ℕ, suc, zero, ◌+◌, ◌*◌, ◌�
 use Rattle.std.proofs.lemmas.Int.{unsigned_abs-mul}
 use Rattle.exact_math.specs.Ordered.{IsOrdered}
 use Rattle.exact_math.specs.Ring.{integers}
-use Rattle.exact_math.proofs.IntegerRing.{expand, linear, mul_comm, mul_neg, neg_mul}
+use Rattle.exact_math.specs.IntegerRing.{expand, linear, mul_comm, mul_neg, neg_mul}
 
 -- a number is at most itself
 pub le_refl : (a : ℤ) → a ≤ℤ a

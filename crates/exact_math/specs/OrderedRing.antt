@@ -2,8 +2,8 @@
 use Rattle.std.proofs.Common.{◌≡◌, pos, [], ◌∷◌, refl, subst, subst₂}
 use Rattle.exact_math.specs.Ordered.{IsOrdered}
 use Rattle.exact_math.specs.Ring.{Ring}
-use Rattle.exact_math.proofs.RingLaws as Laws
-use Rattle.exact_math.proofs.RingSolver.{ring, reads}
+use Rattle.exact_math.specs.RingLaws as Laws
+use Rattle.exact_math.specs.RingSolver.{ring, reads}
 
 module _ {A : Type 0} (r : Ring A) (Le : A → A → Type 0) (o : IsOrdered r Le) where
   -- equal numbers are at most each other

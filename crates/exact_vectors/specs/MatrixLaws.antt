@@ -1,10 +1,10 @@
 -- The laws of matrices as lists of rows over any commutative ring.
 use Rattle.std.proofs.Common.{◌≡◌, ℕ, zero, suc, ◌<◌, pos, List, [], ◌∷◌, length, get_or, set, replicate, refl, sym, ap, ap₂, ◌∙◌, arith, All}
 use Rattle.exact_math.specs.Ring.{Ring}
-use Rattle.exact_math.proofs.RingLaws as Laws
+use Rattle.exact_math.specs.RingLaws as Laws
 use Rattle.exact_vectors.specs.Vectors.{dot, scale, add, zeros}
 use Rattle.exact_vectors.specs.Matrices.{HasWidth, times_vector, combination, column, put_row, transpose, times_matrix}
-use Rattle.exact_vectors.proofs.Dot as Dot
+use Rattle.exact_vectors.specs.DotLaws as Dot
 
 module _ {A : Type 0} (r : Ring A) where
   -- a sum of lists of one length has that length

@@ -5,10 +5,10 @@ use Rattle.std.specs.Cmp.{IsTotalOrder}
 use Rattle.std.proofs.lemmas.Cmp.{int_cmp_total, int_ranked, by_ranked}
 use Rattle.exact_math.specs.Ordered.{IsOrdered}
 use Rattle.exact_math.specs.Rational.{ℚ, whole, frac, ◌+ℚ◌, neg_ℚ, ◌-ℚ◌, ◌*ℚ◌, ◌≤ℚ◌, ◌<ℚ◌, rational_cmp}
-use Rattle.exact_math.proofs.IntegerRing.{expand, linear, neg_mul}
-use Rattle.exact_math.proofs.IntegerOrder as whole_numbers
-use Rattle.exact_math.proofs.RationalLaws.{by_frac, same_from_cross, frac-cross, frac-add, frac-mul, whole-frac, den_pos}
-use Rattle.exact_math.proofs.RationalRing as ring
+use Rattle.exact_math.specs.IntegerRing.{expand, linear, neg_mul}
+use Rattle.exact_math.specs.IntegerOrder as whole_numbers
+use Rattle.exact_math.specs.RationalLaws.{by_frac, same_from_cross, frac-cross, frac-add, frac-mul, whole-frac, den_pos}
+use Rattle.exact_math.specs.RationalRing as ring
 
 -- ---- identities and inequalities of whole numbers; the denominators b, d, u, v are above 0
 
