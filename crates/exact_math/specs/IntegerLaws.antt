@@ -1,4 +1,4 @@
--- The ring laws of the whole numbers ℤ, each over plain variables. `proofs/IntegerRing.antt` passes them on, with the rulesets that use them.
+-- The ring laws of the whole numbers ℤ, each over plain variables. `IntegerRing.antt` passes them on, with the rulesets that use them.
 use Rattle.std.specs.Prelude.{◌≡◌, ◌*◌, ℤ, pos, negsuc, ◌+ℤ◌, ◌*ℤ◌, neg_ℤ}
 use Rattle.std.proofs.Common.{sym, ap, ◌∙◌, arith}
 use Rattle.std.proofs.Math.IntN.{zero-*ℤ, *ℤ-zero, *ℤ_comm, +ℤ_idr, +ℤ_idl, neg_ℤ-+ℤ, neg_ℤ-neg_ℤ}

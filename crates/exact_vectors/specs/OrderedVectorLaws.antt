@@ -1,4 +1,4 @@
--- Dot products and inequalities over any ordered commutative ring: a combination of inequalities with multipliers that are not negative is an inequality, weak duality, and the easy half of Farkas' lemma. `proofs/Inequalities.antt` has them over the whole numbers.
+-- Dot products and inequalities over any ordered commutative ring: a combination of inequalities with multipliers that are not negative is an inequality, weak duality, and the easy half of Farkas' lemma. `InequalityLaws.antt` has them over the whole numbers.
 use Rattle.std.proofs.Common.{◌≡◌, ℕ, suc, pos, List, [], ◌∷◌, ap, ◌∙◌, subst, arith}
 use Rattle.std.specs.List.{AllZip}
 use Rattle.exact_math.specs.Ordered.{IsOrdered}

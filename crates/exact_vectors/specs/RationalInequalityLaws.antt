@@ -1,4 +1,4 @@
--- Inequalities between vectors of rational numbers. `proofs/OrderedVectors.antt` has the other laws, for `rationals_are_ordered`.
+-- Inequalities between vectors of rational numbers. `OrderedVectorLaws.antt` has the other laws, for `rationals_are_ordered`.
 use Rattle.std.proofs.Common.{◌≡◌, ℕ, pos, List}
 use Rattle.std.specs.List.{AllZip}
 use Rattle.exact_math.specs.Rational.{ℚ, whole, ◌≤ℚ◌, ◌<ℚ◌}
