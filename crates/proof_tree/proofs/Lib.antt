@@ -1,0 +1,5 @@
+pub mod Nodes
+pub mod Parts
+pub mod Settling
+pub mod Slices
+pub mod Values

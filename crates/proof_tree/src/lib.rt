@@ -4,6 +4,7 @@
 mod brancher;
 mod laws;
 mod tree;
+mod walk;
 
 pub use brancher::Brancher;
 pub use laws::holding_tree_is_sound;
