@@ -1,8 +1,7 @@
 -- A node that was worked, from its line or from its slices.
-use Rattle.std.proofs.Common.{◌≡◌, ℕ, zero, suc, ◌+◌, ◌-◌, ◌*◌, ◌^◌, ◌<◌, ◌≤◌, ◌↔◌, Bool, true, false, IsTrue, ℤ, pos, ◌+ℤ◌, ◌≤ℤ◌, List, [], ◌∷◌, ◌++◌, length, refl, sym, ap, ◌∙◌, subst, arith, Vec, Global}
-use Rattle.std.specs.Prelude.{Option, Some, None, IfSome}
+use Rattle.std.proofs.Common.{◌≡◌, ℕ, ◌+◌, Bool, true, false, IsTrue, ℤ, ◌+ℤ◌, List, refl, sym, ap, ◌∙◌, arith, Global}
+use Rattle.std.specs.Prelude.{Option, None}
 use Rattle.std.specs.declared.boxed.Box.{Box}
-use Rattle.exact_math.specs.IntegerRing.{linear}
 use Rattle.whole_rows.specs.WholeRows.{WholeRows, IsWithinLimits}
 use Rattle.farkas_rows.specs.declared.line.Line.{Line}
 use Rattle.farkas_rows.specs.declared.path.Slice.{Slice}
@@ -15,14 +14,13 @@ use Rattle.proof_tree.specs.declared.tree.PartTree.{PartTree, Empty, Split, item
 use Rattle.proof_tree.specs.declared.tree.PartTree.TheBlock.{hidden-the_row-PartTree-0}
 use Rattle.proof_tree.specs.declared.tree.PartSplit.{PartSplit}
 use Rattle.proof_tree.specs.declared.walk.Walk.{Walk}
-use Rattle.proof_tree.specs.Trees.{on_slice, IsShort}
-use Rattle.proof_tree.specs.PartTrees.{width, HoldsPart}
-use Rattle.proof_tree.specs.Counts.{records_of_part, open_runs, nodes_within}
-use Rattle.proof_tree.specs.Moves.{IsNoHigher, IsMove, Branches, IsChildOf, widest}
-use Rattle.proof_tree.specs.Follows.{marks_plain, FollowsPart}
-use Rattle.proof_tree.specs.Search.{value_of_best, IsKnown, Improved, StaysAt, Settles, Worked}
-use Rattle.proof_tree.proofs.Values.{IsNoHigher-same, IsNoHigher-trans, best-small}
-use Rattle.proof_tree.proofs.Parts.{FollowsPart-above, Closes-under, IsSplit-under, holds_list, follows_list, records_list, open_list, holds_list-row, follows_list-row, records_list-row, open_list-row, nodes_within-some, nodes_within-higher}
+use Rattle.proof_tree.specs.Trees.{IsShort}
+use Rattle.proof_tree.specs.Counts.{records_of_part, open_runs}
+use Rattle.proof_tree.specs.Moves.{Branches, IsChildOf, widest}
+use Rattle.proof_tree.specs.Follows.{marks_plain}
+use Rattle.proof_tree.specs.Search.{value_of_best, IsKnown, StaysAt, Settles, Worked}
+use Rattle.proof_tree.proofs.Values.{IsNoHigher-same, best-small}
+use Rattle.proof_tree.proofs.Parts.{FollowsPart-above, Closes-under, IsSplit-under, records_list, open_list, holds_list-row, follows_list-row, records_list-row, open_list-row, nodes_within-some, nodes_within-higher}
 use Rattle.proof_tree.proofs.Slices.{Improved-trans, AllSlices}
 
 module _ {Place : Type 0} (stands : WholeRows → Place → List Slice → Option ℤ → Type 0) (height : WholeRows → Place → List Slice → ℕ) (is_plain : Place → Bool) (allows : WholeRows → List Slice → Option ℤ → Move → Type 0) (rows : WholeRows) where

@@ -1,5 +1,5 @@
 -- The parts of a split as a list: what holds of them, one more of them, and a lower best value.
-use Rattle.std.proofs.Common.{◌≡◌, ℕ, zero, suc, ◌+◌, ◌-◌, ◌*◌, ◌^◌, ◌<◌, ◌≤◌, Bool, true, false, IsTrue, ℤ, pos, ◌+ℤ◌, ◌≤ℤ◌, List, [], ◌∷◌, ◌++◌, length, refl, sym, ap, ◌∙◌, subst, arith}
+use Rattle.std.proofs.Common.{◌≡◌, ℕ, zero, suc, ◌+◌, ◌-◌, ◌*◌, ◌^◌, ◌≤◌, Bool, IsTrue, ℤ, ◌+ℤ◌, ◌≤ℤ◌, List, [], ◌∷◌, ◌++◌, refl, ap, ◌∙◌, arith}
 use Rattle.std.proofs.Math.Nat.{mul-le-mul_left}
 use Rattle.std.specs.Prelude.{Option, Some, None, IfSome}
 use Rattle.std.specs.Option.{IsSomeAnd}
@@ -16,7 +16,7 @@ use Rattle.proof_tree.specs.Trees.{on_slice, IsOfSize, Closes, IsSplit}
 use Rattle.proof_tree.specs.PartTrees.{width, HoldsPart, HoldEachPart}
 use Rattle.proof_tree.specs.Counts.{records_of_part, records_of_parts, open_runs, open_runs_of_each, nodes_within}
 use Rattle.proof_tree.specs.Moves.{IsNoHigher, ClosesUnder, SplitsUnder}
-use Rattle.proof_tree.specs.Follows.{WasAllowed, KeepsPlain, marks_plain, FollowsPart, FollowEachPart}
+use Rattle.proof_tree.specs.Follows.{WasAllowed, marks_plain, FollowsPart, FollowEachPart}
 use Rattle.proof_tree.proofs.Values.{IsNoHigher-trans}
 
 -- ---- a lower best value

@@ -1,11 +1,10 @@
 -- What a move of a node says where its rows, path, best value and kind are known by other names.
-use Rattle.std.proofs.Common.{◌≡◌, ℕ, ◌<◌, Bool, ℤ, List, refl, sym, ap, ◌∙◌}
-use Rattle.std.specs.Prelude.{Option, Some, None, IfSome}
-use Rattle.whole_rows.specs.WholeRows.{WholeRows, Meets, IsWithinLimits, cut_value}
+use Rattle.std.proofs.Common.{◌≡◌, ℕ, ◌<◌, Bool, ℤ, List}
+use Rattle.std.specs.Prelude.{Option, Some}
+use Rattle.whole_rows.specs.WholeRows.{WholeRows, IsWithinLimits, cut_value}
 use Rattle.farkas_rows.specs.declared.path.Slice.{Slice}
 use Rattle.proof_tree.specs.declared.tree.Move.{Move}
 use Rattle.proof_tree.specs.declared.tree.Move.TheVariants.{Point}
-use Rattle.proof_tree.specs.declared.walk.Incumbent.{Incumbent}
 use Rattle.proof_tree.specs.declared.walk.Walk.{Walk}
 use Rattle.proof_tree.specs.Moves.{IsMove, Improves}
 use Rattle.proof_tree.specs.Search.{value_of_best, Settles}

@@ -1,7 +1,6 @@
 -- The slices of a split that were worked so far.
-use Rattle.std.proofs.Common.{◌≡◌, ℕ, zero, suc, ◌+◌, ◌-◌, ◌*◌, ◌^◌, ◌<◌, ◌≤◌, ◌↔◌, Bool, true, false, IsTrue, ℤ, pos, ◌+ℤ◌, ◌-ℤ◌, ◌≤ℤ◌, ◌<ℤ◌, List, [], ◌∷◌, ◌++◌, length, refl, sym, ap, ◌∙◌, subst, arith, length-append}
-use Rattle.std.proofs.Math.Nat.{mul-le-mul_left}
-use Rattle.std.specs.Prelude.{Option, Some, None, IfSome}
+use Rattle.std.proofs.Common.{◌≡◌, ℕ, zero, suc, ◌+◌, ◌-◌, ◌*◌, ◌<◌, ◌≤◌, ◌↔◌, Bool, true, false, IsTrue, ℤ, pos, ◌+ℤ◌, ◌-ℤ◌, ◌≤ℤ◌, ◌<ℤ◌, List, [], ◌∷◌, ◌++◌, length, refl, ap, ◌∙◌, arith, length-append}
+use Rattle.std.specs.Prelude.{Option}
 use Rattle.exact_math.specs.IntegerRing.{linear}
 use Rattle.whole_rows.specs.WholeRows.{WholeRows}
 use Rattle.farkas_rows.specs.declared.path.Slice.{Slice}
@@ -11,10 +10,9 @@ use Rattle.proof_tree.specs.declared.tree.PartTree.{PartTree, Open}
 use Rattle.proof_tree.specs.declared.walk.Incumbent.{Incumbent}
 use Rattle.proof_tree.specs.declared.walk.Walk.{Walk}
 use Rattle.proof_tree.specs.Trees.{on_slice}
-use Rattle.proof_tree.specs.PartTrees.{width, HoldsPart}
-use Rattle.proof_tree.specs.Counts.{records_of_part, open_runs, nodes_within}
-use Rattle.proof_tree.specs.Moves.{IsNoHigher, widest}
-use Rattle.proof_tree.specs.Follows.{marks_plain, FollowsPart}
+use Rattle.proof_tree.specs.Counts.{nodes_within}
+use Rattle.proof_tree.specs.Moves.{widest}
+use Rattle.proof_tree.specs.Follows.{marks_plain}
 use Rattle.proof_tree.specs.Search.{value_of_best, IsKnown, Improved, Worked}
 use Rattle.proof_tree.proofs.Values.{IsNoHigher-same, IsNoHigher-trans}
 use Rattle.proof_tree.proofs.Parts.{FollowsPart-above, holds_list, follows_list, records_list, open_list, holds_list-push, follows_list-push, records_list-push, open_list-push, holds_list-lower, follows_list-lower, nodes_within-some, nodes_within-higher, nodes_within-split}

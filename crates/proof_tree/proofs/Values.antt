@@ -1,16 +1,15 @@
 -- The cut value of the best point: it falls, and not for ever.
-use Rattle.std.proofs.Common.{◌≡◌, ℕ, ◌+◌, ◌^◌, ◌<◌, ◌≤◌, ℤ, pos, negsuc, neg_ℤ, ◌+ℤ◌, ◌-ℤ◌, ◌≤ℤ◌, ◌<ℤ◌, List, refl, sym, ap, ◌∙◌, arith, nat_abs, FitsSigned, to_z, of_z}
+use Rattle.std.proofs.Common.{◌≡◌, ℕ, ◌^◌, ◌<◌, ◌≤◌, ℤ, pos, negsuc, ◌+ℤ◌, ◌-ℤ◌, ◌≤ℤ◌, ◌<ℤ◌, List, arith, nat_abs, FitsSigned, to_z, of_z}
 use Rattle.std.specs.Prelude.{Option, Some, None, IfSome}
 use Rattle.std.specs.Int.{w128}
 use Rattle.std.proofs.lemmas.Int.{fits_signed_from_abs, to_z-of_z}
 use Rattle.exact_math.specs.IntegerRing.{linear}
-use Rattle.exact_vectors.specs.Vectors.{dot}
 use Rattle.whole_rows.specs.WholeRows.{WholeRows, Meets, IsWithinLimits, cut_value}
 use Rattle.whole_rows.specs.WeightLaws.{dot_within}
 use Rattle.proof_tree.specs.declared.walk.Incumbent.{Incumbent}
 use Rattle.proof_tree.specs.Trees.{IsOfSize}
 use Rattle.proof_tree.specs.Moves.{IsNoHigher, nonnegative_part}
-use Rattle.proof_tree.specs.Search.{value_of_best, IsKnown, Improved}
+use Rattle.proof_tree.specs.Search.{value_of_best, IsKnown}
 
 -- the cut value of a point is at most 2 to the power 96 in size
 pub cut_value-small : (rows : WholeRows) (x : List ℤ) → IsWithinLimits rows → Meets rows x → IsOfSize (2 ^ 96) (cut_value rows x)

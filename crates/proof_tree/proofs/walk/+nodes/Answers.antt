@@ -1,4 +1,4 @@
-use Rattle.std.proofs.Common.{◌≡◌, ℕ, ◌+◌, ◌-◌, ◌*◌, ◌<◌, ◌≤◌, ℤ, pos, ◌+ℤ◌, ◌-ℤ◌, ◌≤ℤ◌, ◌<ℤ◌, refl, sym, ap, ◌∙◌, arith, rules, to_z, of_z}
+use Rattle.std.proofs.Common.{◌≡◌, ◌+◌, ◌≤◌, pos, ◌+ℤ◌, ◌-ℤ◌, ◌<ℤ◌, refl, ap, ◌∙◌, arith, to_z, of_z}
 use Rattle.std.proofs.lemmas.Int.{ints, to_z-of_z}
 use Rattle.std.proofs.lemmas.Result.{IfOk-weaker}
 use Rattle.std.specs.Int.{w128}
@@ -6,8 +6,8 @@ use Rattle.exact_math.specs.IntegerRing.{linear}
 use Rattle.proof_tree.specs.declared.tree.Cut.{Cut}
 use Rattle.proof_tree.specs.declared.tree.PartSplit.{PartSplit}
 use Rattle.proof_tree.specs.Trees.{on_slice}
-use Rattle.proof_tree.proofs.Values.{IsNoHigher-same, rest-falls, slice_fits, next_fits, rest_fits, count_fits}
-use Rattle.proof_tree.proofs.Slices.{SoFar, SoFar-none, SoFar-more, SoFar-finished, AllSlices, AllSlices-worked, AllSlices-open}
+use Rattle.proof_tree.proofs.Values.{rest-falls, slice_fits, next_fits, rest_fits, count_fits}
+use Rattle.proof_tree.proofs.Slices.{SoFar-none, SoFar-more, SoFar-finished, AllSlices, AllSlices-worked, AllSlices-open}
 use Rattle.proof_tree.proofs.Nodes.{Worked-closed, Worked-split, Worked-stays, branches-from, child_of-from, child-plain}
 use Rattle.proof_tree.proofs.walk.+nodes.Goals as goal
 use Rattle.proof_tree.proofs.walk.+nodes.Goals.{work_slices-then-worked-cut+in_ok-push-2, work_slices-else-worked-cut, work_slices-then-loop-worked-test+else-walk-gt0, work_slices-else-loop-worked-test}
@@ -24,9 +24,9 @@ pub work_node-returns-clause-worked : goal.work_node-returns-clause-worked
 work_node-returns-clause-worked g t c =
     IfOk-weaker c.work_slices.result _ _
     (λ part w.
-        Worked-stays g.B.Brancher.stands_for g.B.Brancher.height g.B.Brancher.is_plain g.B.Brancher.allows c.args.rows.now
-        c.args.place c.settle.new.place _ c.settle.new.walk c.work_slices.new.walk c.args.walk.now.left part c.in_ok-line.ensures.stays
-        (let left : c.settle.new.walk.left + 1 ≡ c.args.walk.now.left = omega (arith, c.requires.some, c.in_ok-line.ensures.stays.left) in rw left at w))
+    Worked-stays g.B.Brancher.stands_for g.B.Brancher.height g.B.Brancher.is_plain g.B.Brancher.allows c.args.rows.now
+    c.args.place c.settle.new.place _ c.settle.new.walk c.work_slices.new.walk c.args.walk.now.left part c.in_ok-line.ensures.stays
+    (let left : c.settle.new.walk.left + 1 ≡ c.args.walk.now.left = omega (arith, c.requires.some, c.in_ok-line.ensures.stays.left) in rw left at w))
     c.work_slices.ensures.worked
 
 pub work_slices-loop-worked-init : goal.work_slices-loop-worked-init
@@ -104,22 +104,22 @@ work_slices-returns-clause-worked g t c =
     let whole : to_z w128 (of_z w128 c.loop-worked.cut.count) ≡ c.args.cut.count = to_z-of_z w128 c.loop-worked.cut.count (rw c.loop-worked.invariant.cut (count_fits c.args.cut.count m.0.count.0 m.0.count.1)) ∙ ap (λ (cut : Cut). cut.count) c.loop-worked.invariant.cut in
     let rest : to_z w128 (of_z w128 (c.args.cut.count -ℤ to_z w128 c.loop-worked.worked-bits)) ≡ c.args.cut.count -ℤ to_z w128 c.loop-worked.worked-bits = to_z-of_z w128 (c.args.cut.count -ℤ to_z w128 c.loop-worked.worked-bits) (rest_fits c.args.cut.count (to_z w128 c.loop-worked.worked-bits) _ m.0.count.1 s.many s.within) in
     let all : AllSlices (g.B.Brancher.allows c.args.rows.now) c.args.rows.now c.args.cut (g.B.Brancher.height c.args.rows.now c.args.place.now c.args.walk.now.path) c.args.walk.now c.if-worked-cut.walk c.if-worked-cut.children.items =
-        elim c.if-worked-cut.branch [
-          work_slices-then-worked-cut+in_ok-push-2 w ↦
-            let more : to_z w128 c.loop-worked.worked-bits <ℤ c.args.cut.count = omega (arith, ints, rw whole at w.if-worked-cut.true) in
-            let none : c.loop-worked.walk.left ≡ 0 =
-                elim c.loop-worked-test.branch [
-                  work_slices-then-loop-worked-test+else-walk-gt0 v ↦ omega (arith, v.if-walk-gt0.false)
-                | work_slices-else-loop-worked-test v ↦ absurd (omega (arith, ints, more, rw whole at v.loop-worked-test.false))
-                ]
-            in
-            rw (w.walk-is, w.children-is, w.in_ok-push-2.ensures.items, whole, rest)
-            (AllSlices-open _ c.args.rows.now c.args.cut _ c.args.walk.now c.loop-worked.walk (to_z w128 c.loop-worked.worked-bits) c.loop-worked.children.items s m.0.narrow m.1 _ more none refl)
-        | work_slices-else-worked-cut w ↦
-            rw (w.walk-is, w.children-is)
-            (AllSlices-worked _ c.args.rows.now c.args.cut _ c.args.walk.now c.loop-worked.walk (to_z w128 c.loop-worked.worked-bits) c.loop-worked.children.items s m.0.narrow m.1
-            (omega (arith, ints, rw whole at w.if-worked-cut.false)))
-        ]
+    elim c.if-worked-cut.branch [
+      | work_slices-then-worked-cut+in_ok-push-2 w ↦
+          let more : to_z w128 c.loop-worked.worked-bits <ℤ c.args.cut.count = omega (arith, ints, rw whole at w.if-worked-cut.true) in
+          let none : c.loop-worked.walk.left ≡ 0 =
+          elim c.loop-worked-test.branch [
+            | work_slices-then-loop-worked-test+else-walk-gt0 v ↦ omega (arith, v.if-walk-gt0.false)
+            | work_slices-else-loop-worked-test v ↦ absurd (omega (arith, ints, more, rw whole at v.loop-worked-test.false))
+          ]
+          in
+          rw (w.walk-is, w.children-is, w.in_ok-push-2.ensures.items, whole, rest)
+          (AllSlices-open _ c.args.rows.now c.args.cut _ c.args.walk.now c.loop-worked.walk (to_z w128 c.loop-worked.worked-bits) c.loop-worked.children.items s m.0.narrow m.1 _ more none refl)
+      | work_slices-else-worked-cut w ↦
+          rw (w.walk-is, w.children-is)
+          (AllSlices-worked _ c.args.rows.now c.args.cut _ c.args.walk.now c.loop-worked.walk (to_z w128 c.loop-worked.worked-bits) c.loop-worked.children.items s m.0.narrow m.1
+          (omega (arith, ints, rw whole at w.if-worked-cut.false)))
+    ]
     in
     Worked-split g.B.Brancher.stands_for g.B.Brancher.height g.B.Brancher.is_plain g.B.Brancher.allows c.args.rows.now
     c.args.place.now c.args.walk.now c.if-worked-cut.walk c.args.cut c.if-worked-cut.children.items c.in_ok-new.field-0 c.requires.limits c.requires.known c.requires.settled

@@ -1,4 +1,4 @@
-use Rattle.std.proofs.Common.{◌≡◌, ℕ, ◌+◌, ◌*◌, ◌-ℤ◌}
+use Rattle.std.proofs.Common.{◌≡◌, ◌+◌, ◌*◌, ◌-ℤ◌}
 use Rattle.proof_tree.specs.Moves.{nonnegative_part}
 use Rattle.proof_tree.proofs.Slices.{SoFar}
 use Rattle.proof_tree.proofs.walk.+nodes.Given as goal
@@ -14,7 +14,7 @@ invariant-work_slices-loop-worked g l =
     record {
       works : g.B.Brancher.rows l.brancher ≡ l.rows;
       cut : l.cut ≡ l.initial.cut;
-      so_far : SoFar (g.B.Brancher.allows l.rows) l.rows l.initial.cut (g.B.Brancher.height l.rows l.place l.initial.walk.path) l.initial.walk l.walk l.worked l.children.items
+      so_far : SoFar (g.B.Brancher.allows l.rows) l.rows l.initial.cut (g.B.Brancher.height l.rows l.place l.initial.walk.path) l.initial.walk l.walk l.worked l.children.items;
     }
 
 abbrev pub decreases-work_slices-loop-worked : goal.decreases-work_slices-loop-worked
