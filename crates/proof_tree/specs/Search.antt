@@ -19,6 +19,10 @@ use Rattle.proof_tree.specs.Follows.{FollowsPart}
 abbrev pub value_of_best : Option Incumbent → Option ℤ
 value_of_best best = option_map (λ (best : Incumbent). best.value) best
 
+-- the best point alone
+abbrev pub point_of_best : Option Incumbent → Option (List ℤ)
+point_of_best best = option_map (λ (best : Incumbent). best.point) best
+
 -- the point meets the rows, and its value is its cut value
 abbrev pub IsKnown : WholeRows → Option Incumbent → Type 0
 IsKnown rows best = IfSome best (λ (best : Incumbent). Meets rows best.point × (best.value ≡ cut_value rows best.point))

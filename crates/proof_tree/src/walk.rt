@@ -1,14 +1,16 @@
 //! The search of a tree, node by node, by recursion.
-ghost use Rattle.std.specs.Prelude.{◌≡◌, ◌+◌, ◌<◌, false, ℤ, ◌+ℤ◌, List, [], IfOk, OnOk, FitsSigned};
+ghost use Rattle.std.specs.Prelude.{◌≡◌, ◌+◌, ◌<◌, false, None, ℤ, ◌+ℤ◌, List, [], IfOk, OnOk, FitsSigned};
 ghost use Rattle.std.specs.Int.{w128};
 ghost use Rattle.whole_rows.specs.WholeRows.{IsWithinLimits, Meets, cut_value};
 ghost use Rattle.farkas_rows.specs.declared.path.Slice.{Slice};
 ghost use Rattle.proof_tree.specs.declared.tree.Move.TheVariants.{Split};
 ghost use Rattle.proof_tree.specs.Trees.{on_slice};
-ghost use Rattle.proof_tree.specs.Search.{value_of_best, IsKnown, StaysAt, Settles, Worked, move_of};
+ghost use Rattle.proof_tree.specs.Found.{IsFound};
+ghost use Rattle.proof_tree.specs.Search.{value_of_best, point_of_best, IsKnown, StaysAt, Settles, Worked, move_of};
 
 use crate::brancher::Brancher;
-use crate::tree::{Cut, Move, PartSplit, PartTree};
+use crate::tree::{Cut, Move, PartSplit, PartTree, Searched};
+use crate::whole::whole_tree;
 use farkas_rows::{Line, Path, Slice};
 use sequence::NoMemory;
 use spaces::{Form, Original, Vect};
@@ -77,6 +79,50 @@ impl Walk {
         if let Some(slice) = self.path.pop() {
             cut.form = slice.form;
         }
+    }
+}
+
+/// The point alone.
+fn point_of(best: Option<Incumbent>) -> Option<Vect<Original>>
+    ensures { result ≡ point_of_best best }
+{
+    best.map(|best| best.point)
+}
+
+/// Searches a tree from the root, for the brancher's rows, with a budget of so many nodes.
+///
+/// `Done` comes where all nodes are closed, and `Spent` exactly where so many nodes were worked and another one is open. That
+/// never comes where there are as many nodes as `(w + 2) ^ (2 * n)`, where `n` is the number of columns and `w` the greatest
+/// difference between the bounds of one.
+pub fn search<B: Brancher>(
+    alloc: Global,
+    brancher: &mut B,
+    root: B::Place,
+    rows: &DenseRows,
+    nodes: u32,
+) -> Result<Searched, NoMemory>
+    requires works { B.rows brancher.old ≡ rows.now }
+    requires root { B.stands_for rows.now root [] None }
+    requires some { 0 < nodes }
+    ensures same { OnOk result (B.rows brancher.new ≡ rows.now) }
+    ensures found { IfOk result (IsFound (B.allows rows.now) rows.now (B.is_plain root) nodes) }
+{
+    let columns = rows.columns();
+    prove!(columns <= 256);
+    let mut walk = Walk {
+        path: Path::new(alloc),
+        best: None,
+        left: nodes,
+        unfinished: false,
+    };
+    let part = work_node(alloc, brancher, root, rows, &mut walk)?;
+    let unfinished = walk.unfinished;
+    let best = point_of(walk.best);
+    if unfinished {
+        Ok(Searched::Spent { part, best })
+    } else {
+        let tree = whole_tree(alloc, part)?;
+        Ok(Searched::Done { tree, best })
     }
 }
 
