@@ -7,11 +7,8 @@ use Rattle.mps_fields.specs.Lines.{is_blank}
 use Rattle.mps_fields.specs.FreeFields.{fields_from, onto_first_field}
 use Rattle.mps_fields.specs.FreeViews.{run_span, CutsFirst}
 use Rattle.mps_fields.specs.declared.runs.Cut.{Cut}
-use Rattle.mps_fields.proofs.Booleans.{either}
-
--- one more on either side
-one_more : (n : ℕ) → 1 + n ≡ suc n
-one_more n = omega arith
+use Rattle.mps_fields.specs.BooleanLaws.{either}
+use Rattle.mps_fields.specs.FrontLaws.{one_more}
 
 -- how many blanks stand in front
 abbrev pub blanks : List ℕ → ℕ

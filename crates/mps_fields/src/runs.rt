@@ -39,7 +39,7 @@ fn first_blank(bytes: &[u8]) -> Option<usize>
 }
 
 // How many blanks stand in front.
-#[tactic(auto, using(crate::proofs::LineLaws::place_some, crate::proofs::LineLaws::place_none))]
+#[tactic(auto, using(crate::specs::FrontLaws::place_some, crate::specs::FrontLaws::place_none))]
 fn blanks_len(bytes: &[u8]) -> usize
     ensures len { result ≡ position_or_len (λ byte. not (blank byte)) bytes.now }
     ensures within { result ≤ length bytes.now }
@@ -51,7 +51,7 @@ fn blanks_len(bytes: &[u8]) -> usize
 }
 
 // How many bytes of a run stand in front.
-#[tactic(auto, using(crate::proofs::LineLaws::place_some, crate::proofs::LineLaws::place_none))]
+#[tactic(auto, using(crate::specs::FrontLaws::place_some, crate::specs::FrontLaws::place_none))]
 fn run_len(bytes: &[u8]) -> usize
     ensures len { result ≡ position_or_len blank bytes.now }
     ensures within { result ≤ length bytes.now }

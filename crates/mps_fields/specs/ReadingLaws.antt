@@ -1,13 +1,14 @@
 -- The parts that are found in a text are those of the one number that it is.
-use Rattle.std.proofs.Common.{◌≡◌, ℕ, suc, ◌+◌, Bool, true, false, true≢false, cond, ◌&&◌, ◌||◌, eqb, List, [], ◌∷◌, ◌++◌, length, take, drop, Option, Some, None, refl, sym, ap, subst, ◌∙◌, arith}
+use Rattle.std.proofs.Common.{◌≡◌, ℕ, ◌+◌, Bool, true, false, true≢false, cond, ◌&&◌, ◌||◌, eqb, List, [], ◌∷◌, ◌++◌, length, take, drop, Option, Some, None, refl, sym, ap, subst, ◌∙◌, arith}
 use Rattle.std.specs.List.{list_all, prefix_len}
-use Rattle.std.proofs.lemmas.Bool.{eqb-true}
+use Rattle.std.proofs.lemmas.Bool.{eqb-true, and_parts, or_parts}
 use Rattle.std.proofs.lemmas.List.{take-append-drop}
-use Rattle.std.proofs.Math.Seq.{take-append_seam}
+use Rattle.std.proofs.Math.Seq.{take-append_seam, drop-append_seam}
+use Rattle.std.proofs.lemmas.List.Folds.{list_all-append}
 use Rattle.std.proofs.lemmas.Option.{same_Some, none-some}
 use Rattle.mps_fields.specs.Decimal.{Sign, unsigned, plus, minus, sign_text, Exponent, Decimal, Spells, is_digit, is_digits, is_exponent, is_exponent_letter, exponent_text, fraction_text, fraction_digits, decimal_text, digits_of}
 use Rattle.mps_fields.specs.Reading.{sign_of, after_sign, front_digits, after_digits, fraction_of, after_fraction, exponent_of, decimal_with, decimal_of}
-use Rattle.mps_fields.proofs.Booleans.{either, both_true, true_both, neither, some_of}
+use Rattle.mps_fields.specs.BooleanLaws.{either, some_of}
 
 -- ---- single bytes
 
@@ -45,13 +46,8 @@ prefix_len-append : (p : ℕ → Bool) (front rest : List ℕ) → list_all p fr
 prefix_len-append p [] [] all ends = refl
 prefix_len-append p [] (byte ∷ rest) all ends = rw ends refl
 prefix_len-append p (byte ∷ front) rest all ends =
-    let both = both_true (p byte) (list_all p front) all in
+    let both = and_parts (p byte) (list_all p front) all in
     ap (λ t. cond t (1 + prefix_len p (front ++ rest)) 0) both.0 ∙ ap (λ n. 1 + n) (prefix_len-append p front rest both.1 ends) ∙ omega arith
-
--- behind the front stands the rest
-drop_seam : (front rest : List ℕ) → drop (length front) (front ++ rest) ≡ rest
-drop_seam [] rest = refl
-drop_seam (byte ∷ front) rest = drop_seam front rest
 
 -- digits in front
 front_digits-append : (digits rest : List ℕ) → list_all is_digit digits ≡ true → Ends is_digit rest → front_digits (digits ++ rest) ≡ digits
@@ -61,23 +57,7 @@ front_digits-append digits rest all ends =
 -- what stands behind digits
 after_digits-append : (digits rest : List ℕ) → list_all is_digit digits ≡ true → Ends is_digit rest → after_digits (digits ++ rest) ≡ rest
 after_digits-append digits rest all ends =
-    ap (λ n. drop n (digits ++ rest)) (prefix_len-append is_digit digits rest all ends) ∙ drop_seam digits rest
-
--- one more on either side
-one_more : (n : ℕ) → 1 + n ≡ suc n
-one_more n = omega arith
-
--- one more byte that passes
-prefix_len-cons : (p : ℕ → Bool) (byte : ℕ) (bytes : List ℕ) → p byte ≡ true → prefix_len p (byte ∷ bytes) ≡ suc (prefix_len p bytes)
-prefix_len-cons p byte bytes t = ap (λ b. cond b (1 + prefix_len p bytes) 0) t ∙ one_more (prefix_len p bytes)
-
--- each byte of the front that passes, passes
-pub front-all : (p : ℕ → Bool) (text : List ℕ) → list_all p (take (prefix_len p text) text) ≡ true
-front-all p [] = refl
-front-all p (byte ∷ bytes) =
-    either (p byte)
-    (λ t. subst (λ n. list_all p (take n (byte ∷ bytes)) ≡ true) (sym (prefix_len-cons p byte bytes t)) (true_both (p byte) (list_all p (take (prefix_len p bytes) bytes)) t (front-all p bytes)))
-    (λ f. subst (λ n. list_all p (take n (byte ∷ bytes)) ≡ true) (sym (ap (λ b. cond b (1 + prefix_len p bytes) 0) f)) refl)
+    ap (λ n. drop n (digits ++ rest)) (prefix_len-append is_digit digits rest all ends) ∙ drop-append_seam digits rest
 
 -- ---- lists of digits
 
@@ -86,21 +66,13 @@ pub is_digits-all : (bytes : List ℕ) → is_digits bytes ≡ true → list_all
 is_digits-all [] h = absurd (true≢false (sym h))
 is_digits-all (byte ∷ bytes) h = h
 
--- all of a joined list
-list_all-append : (p : ℕ → Bool) (xs ys : List ℕ) → list_all p (xs ++ ys) ≡ true → (list_all p xs ≡ true) × (list_all p ys ≡ true)
-list_all-append p [] ys h = (refl, h)
-list_all-append p (x ∷ xs) ys h =
-    let both = both_true (p x) (list_all p (xs ++ ys)) h in
-    let rest = list_all-append p xs ys both.1 in
-    (true_both (p x) (list_all p xs) both.0 rest.0, rest.1)
-
 -- ---- the sign
 
 -- the sign that is written is found
 sign_of-text : (s : Sign) (text : List ℕ) → Ends is_sign text → sign_of (sign_text s ++ text) ≡ s
 sign_of-text unsigned [] ends = refl
 sign_of-text unsigned (byte ∷ bytes) ends =
-    let no = neither (eqb byte 43) (eqb byte 45) ends in
+    let no = or_parts (eqb byte 43) (eqb byte 45) ends in
     rw (no.0, no.1) refl
 sign_of-text plus text ends = refl
 sign_of-text minus text ends = refl
@@ -128,18 +100,18 @@ sign-whole (byte ∷ bytes) =
 exponent_text-ends : (p : ℕ → Bool) → p 101 ≡ false → p 69 ≡ false → p 100 ≡ false → p 68 ≡ false → (x : Option Exponent) → is_exponent x ≡ true → Ends p (exponent_text x)
 exponent_text-ends p a b c d None h = tt
 exponent_text-ends p a b c d (Some x) h =
-    letter_is (λ byte. p byte ≡ false) a b c d x.letter (both_true (is_exponent_letter x.letter) (is_digits x.digits) h).0
+    letter_is (λ byte. p byte ≡ false) a b c d x.letter (and_parts (is_exponent_letter x.letter) (is_digits x.digits) h).0
 
 -- digits begin with no sign
 digits_no_sign : (digits : List ℕ) → is_digits digits ≡ true → Ends is_sign digits
 digits_no_sign [] h = tt
-digits_no_sign (byte ∷ bytes) h = digit_no_sign byte (both_true (is_digit byte) (list_all is_digit bytes) h).0
+digits_no_sign (byte ∷ bytes) h = digit_no_sign byte (and_parts (is_digit byte) (list_all is_digit bytes) h).0
 
 -- the exponent that is written is found
 exponent_of-text : (x : Option Exponent) → is_exponent x ≡ true → exponent_of (exponent_text x) ≡ Some x
 exponent_of-text None h = refl
 exponent_of-text (Some x) h =
-    let both = both_true (is_exponent_letter x.letter) (is_digits x.digits) h in
+    let both = and_parts (is_exponent_letter x.letter) (is_digits x.digits) h in
     let ends = digits_no_sign x.digits both.1 in
     rw (sign_of-text x.sign x.digits ends, after_sign-text x.sign x.digits ends, both.0, both.1) refl
 
@@ -185,7 +157,7 @@ fraction_text-ends (Some digits) x h = refl
 number-no_sign : (whole : List ℕ) (f : Option (List ℕ)) (rest : List ℕ) → is_digits (whole ++ fraction_digits f) ≡ true → Ends is_sign (whole ++ (fraction_text f ++ rest))
 number-no_sign [] None rest h = absurd (true≢false (sym h))
 number-no_sign [] (Some digits) rest h = refl
-number-no_sign (byte ∷ bytes) f rest h = digit_no_sign byte (both_true (is_digit byte) (list_all is_digit (bytes ++ fraction_digits f)) h).0
+number-no_sign (byte ∷ bytes) f rest h = digit_no_sign byte (and_parts (is_digit byte) (list_all is_digit (bytes ++ fraction_digits f)) h).0
 
 -- a decimal of found parts
 decimal_with-same : (s t : Sign) (v w : List ℕ) (f g : Option (List ℕ)) (x : Option (Option Exponent)) (y : Option Exponent) → s ≡ t → v ≡ w → f ≡ g → x ≡ Some y → is_digits (w ++ fraction_digits g) ≡ true
@@ -198,7 +170,7 @@ decimal_with-same s t v w f g x y p q r e h =
 pub found_in_text : (d : Decimal) → is_digits (digits_of d) ≡ true → is_exponent d.exponent ≡ true → decimal_of (decimal_text d) ≡ Some d
 unfolding decimal_of
 found_in_text d digits exponent =
-    let all = list_all-append is_digit d.whole (fraction_digits d.fraction) (is_digits-all (digits_of d) digits) in
+    let all = and_parts _ _ (sym (list_all-append is_digit d.whole (fraction_digits d.fraction)) ∙ is_digits-all (digits_of d) digits) in
     let behind : List ℕ = fraction_text d.fraction ++ exponent_text d.exponent in
     let number : List ℕ = d.whole ++ behind in
     let no_sign = number-no_sign d.whole d.fraction (exponent_text d.exponent) digits in
