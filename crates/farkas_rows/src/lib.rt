@@ -3,7 +3,9 @@
 
 mod laws;
 mod line;
+mod node;
 mod path;
+mod side;
 
 pub use laws::refuted_node_has_no_point;
 pub use line::{CutUse, End, Line, Use, Uses, Weight};
