@@ -3,7 +3,7 @@ use Rattle.std.proofs.Common.{◌≡◌, ℕ, zero, suc, ◌+◌, ◌≤◌, Lis
 use Rattle.std.proofs.lemmas.List.{length-take}
 use Rattle.mps_fields.specs.Lines.{Line}
 use Rattle.mps_fields.specs.FreeFields.{FreeLine, fields_from, free_fields, with_field}
-use Rattle.mps_fields.specs.FreeViews.{run_span, CutsFirst}
+use Rattle.mps_fields.specs.FieldViews.{cut_span, CutsFirst}
 use Rattle.mps_fields.specs.declared.runs.Cut.{Cut}
 
 pub record IsFound (found : FreeLine) (line : Line) (place : ℕ) (rest : List ℕ) : Type 0 where
@@ -21,9 +21,9 @@ take-take_append (suc n) [] ys = refl
 take-take_append (suc n) (x ∷ xs) ys = ap (λ t. x ∷ t) (take-take_append n xs ys)
 
 -- one more field is found
-pub one_found : (found next : FreeLine) (line : Line) (place : ℕ) (rest : List ℕ) (cut : Cut) → next ≡ with_field found (run_span cut.run) → CutsFirst place rest cut → IsFound found line place rest → IsFound next line cut.end cut.rest.now
+pub one_found : (found next : FreeLine) (line : Line) (place : ℕ) (rest : List ℕ) (cut : Cut) → next ≡ with_field found (cut_span cut) → CutsFirst place rest cut → IsFound found line place rest → IsFound next line cut.end cut.rest.now
 one_found found next line place rest cut grown cuts now =
-    let field = run_span cut.run in
+    let field = cut_span cut in
     let left = fields_from cut.end cut.rest.now in
     let counted : next.count ≡ found.count + 1 = ap (λ f. f.count) grown in
     record {

@@ -7,6 +7,5 @@ pub mod ReadingLaws
 pub mod Parts
 pub mod LineViews
 pub mod FieldViews
-pub mod FreeViews
 pub mod BooleanLaws
 pub mod FrontLaws

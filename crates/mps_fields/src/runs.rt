@@ -3,19 +3,13 @@ ghost use Rattle.std.specs.Prelude.{◌≡◌, ◌+◌, ◌≤◌, [], not, posi
 ghost use Rattle.std.specs.List.{prefix_len, position_or_len};
 ghost use Rattle.mps_fields.specs.Lines.{is_blank as blank};
 ghost use Rattle.mps_fields.specs.FreeFields.{fields_from};
-ghost use Rattle.mps_fields.specs.FreeViews.{CutsFirst};
+ghost use Rattle.mps_fields.specs.FieldViews.{CutsFirst};
 
-/// A run that begins `at` bytes into its line.
-#[derive(Clone, Copy, Debug)]
-pub(crate) struct Run<'a> {
-    pub(crate) at: u32,
-    pub(crate) text: &'a [u8],
-}
-
-/// A run, and the rest of the line, which begins at the place `end`.
+/// A run that begins `at` bytes into its line, and the rest of the line, which begins at the place `end`.
 #[derive(Clone, Copy, Debug)]
 pub(crate) struct Cut<'a> {
-    pub(crate) run: Run<'a>,
+    pub(crate) at: u32,
+    pub(crate) text: &'a [u8],
     pub(crate) rest: &'a [u8],
     pub(crate) end: u32,
 }
@@ -75,7 +69,8 @@ pub(crate) fn cut_run(bytes: &[u8], place: u32) -> Option<Cut<'_>>
     let (text, rest) = bytes.split_at(run_len(bytes));
     let at = place + blanks as u32;
     Some(Cut {
-        run: Run { at, text },
+        at,
+        text,
         rest,
         end: at + text.len() as u32,
     })

@@ -10,7 +10,7 @@ use Rattle.mps_fields.specs.Lines.{is_blank, is_blank_line}
 use Rattle.mps_fields.specs.FreeFields.{Span, ends_run, onto_first_field, fields_from}
 use Rattle.mps_fields.specs.FixedFields.{is_space, trimmed, without_end, gaps, is_free_at, is_in_columns}
 use Rattle.mps_fields.specs.BooleanLaws.{either}
-use Rattle.mps_fields.specs.ReadingLaws.{front-all}
+use Rattle.mps_fields.specs.FrontLaws.{front-all}
 use Rattle.std.proofs.lemmas.List.{drop-drop}
 use Rattle.mps_model.specs.Sections.{free_texts}
 use Rattle.mps_model.specs.Places.{Fields, fixed_texts}
