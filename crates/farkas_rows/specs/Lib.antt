@@ -1,0 +1,3 @@
+pub mod Inequalities
+pub mod Ends
+pub mod Refutes

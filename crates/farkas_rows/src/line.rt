@@ -30,8 +30,14 @@ pub struct Line {
 #[derive(Clone, Copy, Debug, Drop)]
 pub enum End<'a> {
     Absent,
-    Below { form: &'a Form<Original>, lo: i128 },
-    Above { form: &'a Form<Original>, from: i128 },
+    Below {
+        form: &'a Form<Original>,
+        lo: i128,
+    },
+    Above {
+        form: &'a Form<Original>,
+        from: i128,
+    },
 }
 
 /// The weight of a line, or that it is above 2 to the power 126.

@@ -1,0 +1,42 @@
+-- When a line shows that a node has no point: it combines the node's inequalities to one that is false.
+use Rattle.std.specs.Prelude.{◌≡◌, ℕ, ◌+◌, ◌^◌, max, ℤ, pos, ◌≤ℤ◌, ◌<ℤ◌, List, [], ◌++◌, length, map, sum_by, All, Option, IsSome, option_map, option_to_list, unwrap_or, unsigned_abs}
+use Rattle.std.specs.List.Sorted.{IsStrictlyIncreasing}
+use Rattle.exact_math.specs.Ring.{integers}
+use Rattle.exact_vectors.specs.Vectors.{dot, zeros}
+use Rattle.exact_vectors.specs.Matrices.{combination}
+use Rattle.whole_rows.specs.WholeRows.{WholeRows}
+use Rattle.farkas_rows.specs.declared.line.Use.{Use}
+use Rattle.farkas_rows.specs.declared.line.CutUse.{CutUse}
+use Rattle.farkas_rows.specs.declared.line.Line.{Line}
+use Rattle.farkas_rows.specs.declared.path.Slice.{Slice}
+use Rattle.farkas_rows.specs.Inequalities.{Inequality, inequality_at, cut_inequality}
+
+-- the multipliers of a line: that of the cut first, where it is used
+abbrev pub multipliers : Line → List ℤ
+multipliers line = option_to_list (option_map (λ (cut : CutUse). cut.times) line.cut) ++ map (λ (item : Use). item.times) line.items
+
+-- what stands for the inequality of a number that names none: 0 is at most 0
+abbrev pub nothing : Inequality
+nothing = record { factors = []; limit = pos 0 }
+
+-- the inequalities that a line combines, in the order of its multipliers
+abbrev pub used : WholeRows → List Slice → Option Inequality → Line → List Inequality
+used rows path end line = option_to_list (option_map (λ (cut : CutUse). cut_inequality rows cut.value) line.cut) ++ map (λ (item : Use). unwrap_or (inequality_at rows path end item.index) nothing) line.items
+
+-- the weight of an inequality: the sizes of its limit and of its factors, and at least 1
+abbrev pub inequality_weight : Inequality → ℕ
+inequality_weight inequality = max 1 (unsigned_abs inequality.limit + sum_by unsigned_abs inequality.factors)
+
+-- the weight of a line: the sum of each multiplier times the weight of its inequality
+abbrev pub line_weight : WholeRows → List Slice → Option Inequality → Line → ℤ
+line_weight rows path end line = dot integers (multipliers line) (map (λ (inequality : Inequality). pos (inequality_weight inequality)) (used rows path end line))
+
+-- The line shows that no values meet the inequalities that it uses: with its multipliers, none of which is below 1, their left
+-- sides come to 0 in each column, and their limits to less than 0.
+pub record Refutes (rows : WholeRows) (path : List Slice) (end : Option Inequality) (line : Line) : Type 0 where
+  pub rising : IsStrictlyIncreasing (map (λ (item : Use). item.index) line.items)
+  pub there : All (λ (item : Use). IsSome (inequality_at rows path end item.index)) line.items
+  pub in_range : All (λ times. (pos 1 ≤ℤ times) × (times ≤ℤ pos (2 ^ 126))) (multipliers line)
+  pub light : line_weight rows path end line ≤ℤ pos (2 ^ 126)
+  pub vanishes : combination integers (length rows.box) (multipliers line) (map (λ (inequality : Inequality). inequality.factors) (used rows path end line)) ≡ zeros integers (length rows.box)
+  pub negative : dot integers (multipliers line) (map (λ (inequality : Inequality). inequality.limit) (used rows path end line)) <ℤ pos 0
