@@ -1,2 +1,3 @@
 pub mod Slices
 pub mod Ends
+pub mod Items
