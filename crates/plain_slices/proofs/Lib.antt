@@ -1,3 +1,4 @@
 pub mod EndLemmas
 pub mod SliceLemmas
 pub mod ItemLaws
+pub mod UnitLaws
