@@ -40,3 +40,15 @@ pub record Refutes (rows : WholeRows) (path : List Slice) (end : Option Inequali
   pub light : line_weight rows path end line ≤ℤ pos (2 ^ 126)
   pub vanishes : combination integers (length rows.box) (multipliers line) (map (λ (inequality : Inequality). inequality.factors) (used rows path end line)) ≡ zeros integers (length rows.box)
   pub negative : dot integers (multipliers line) (map (λ (inequality : Inequality). inequality.limit) (used rows path end line)) <ℤ pos 0
+
+-- each slice's form has a factor for each of the columns
+abbrev pub HasForms : ℕ → List Slice → Type 0
+HasForms columns path = All (λ (slice : Slice). length slice.form ≡ columns) path
+
+-- the values x lie on each slice
+abbrev pub IsOnPath : List Slice → List ℤ → Type 0
+IsOnPath path x = All (λ (slice : Slice). dot integers slice.form x ≡ slice.beta) path
+
+-- the inequality has a factor for each of the columns
+abbrev pub IsDense : ℕ → Inequality → Type 0
+IsDense columns inequality = length inequality.factors ≡ columns

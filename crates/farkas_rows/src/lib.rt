@@ -1,9 +1,11 @@
 //! Lines: combinations of a node's inequalities that show that no point is there.
 #![tactic(auto)]
 
+mod laws;
 mod line;
 mod path;
 
+pub use laws::refuted_node_has_no_point;
 pub use line::{CutUse, End, Line, Use, Uses, Weight};
 pub use path::{Path, Slice};
 pub use sequence::NoMemory;

@@ -1,15 +1,13 @@
 -- What may be done at a node of a search.
-use Rattle.std.specs.Prelude.{◌≡◌, ℕ, ◌+◌, ◌^◌, ◌≤◌, ◌↔◌, max, Bool, IsTrue, ℤ, pos, negsuc, ◌+ℤ◌, ◌-ℤ◌, ◌≤ℤ◌, ◌<ℤ◌, List, [], ◌∷◌, All, Option, None, Some, IfSome}
+use Rattle.std.specs.Prelude.{◌≡◌, ℕ, ◌+◌, ◌^◌, ◌≤◌, ◌↔◌, max, Bool, IsTrue, ℤ, pos, negsuc, ◌+ℤ◌, ◌-ℤ◌, ◌≤ℤ◌, ◌<ℤ◌, List, [], ◌∷◌, Option, None, Some, IfSome}
 use Rattle.std.specs.Option.{IsSomeAnd}
-use Rattle.exact_math.specs.Ring.{integers}
-use Rattle.exact_vectors.specs.Vectors.{dot}
 use Rattle.whole_rows.specs.declared.bounds.Bounds.{Bounds}
 use Rattle.whole_rows.specs.WholeRows.{WholeRows, Meets, cut_value}
 use Rattle.farkas_rows.specs.declared.line.CutUse.{CutUse}
 use Rattle.farkas_rows.specs.declared.line.Line.{Line}
 use Rattle.farkas_rows.specs.declared.path.Slice.{Slice}
 use Rattle.farkas_rows.specs.Inequalities.{Inequality, below, above}
-use Rattle.farkas_rows.specs.Refutes.{Refutes}
+use Rattle.farkas_rows.specs.Refutes.{Refutes, IsOnPath}
 use Rattle.proof_tree.specs.declared.tree.Cut.{Cut}
 use Rattle.proof_tree.specs.declared.tree.Mark.TheVariants.{Plain}
 use Rattle.proof_tree.specs.declared.tree.Move.{Move}
@@ -47,7 +45,7 @@ pub record SplitsUnder (rows : WholeRows) (best : Option ℤ) (path : List Slice
 -- a point on the path that is better than the best one
 pub record Improves (rows : WholeRows) (best : Option ℤ) (path : List Slice) (x : List ℤ) : Type 0 where
   pub meets : Meets rows x
-  pub on_path : All (λ (slice : Slice). dot integers slice.form x ≡ slice.beta) path
+  pub on_path : IsOnPath path x
   pub better : IfSome best (λ value. cut_value rows x <ℤ value)
 
 -- The move of a node at a place of this height, which is plain or not: a split into slices wants a height of at least 1, and is
