@@ -3,6 +3,7 @@
 
 mod ends;
 mod search;
+mod node;
 mod single;
 #[cfg(test)]
 mod tests;
