@@ -3,8 +3,8 @@ use Rattle.std.proofs.Common.{◌≡◌, ◌⊎◌, ⊎_elim, inl, inr, ◌≤�
 use Rattle.std.specs.Prelude.{option_map, IfSome}
 use Rattle.std.proofs.lemmas.Option.{same_Some, none-some}
 use Rattle.desk_io.specs.Desk.{Rose, appended, AppendsSome, Same}
-use Rattle.desk_io.proofs.Appended.{appends_all}
-use Rattle.desk_io.proofs.Faults.{rose_after}
+use Rattle.desk_io.specs.AppendLaws.{appends_all}
+use Rattle.desk_io.specs.FaultLaws.{rose_after}
 use Rattle.solve_cli.specs.declared.status.Status.{Status}
 use Rattle.solve_cli.specs.declared.status.Status.TheVariants.{Optimal, Infeasible, Words, Text, TooLong, Large, ReadFault, WriteFault, NoMemory}
 use Rattle.solve_cli.specs.Words.{Solve, command_of}

@@ -13,7 +13,7 @@ use Rattle.exact_math.specs.Rational.{whole}
 use Rattle.mps_fields.specs.declared.numbers.NumberFault.TheVariants.{WideNumber}
 use Rattle.mps_fields.specs.Decimal.{is_digit, is_digits, digits_value, unsigned, Decimal, Spells, fits_product, scaled}
 use Rattle.mps_fields.specs.Reading.{value_of, number_of}
-use Rattle.mps_fields.proofs.ReadingLaws.{spells_found}
+use Rattle.mps_fields.specs.ReadingLaws.{spells_found}
 use Rattle.solve_cli.specs.declared.words.SolveOption.TheVariants.{Upper}
 use Rattle.solve_cli.specs.Words.{is_plain_number, within_bound, bound_of, IsOption}
 
