@@ -33,7 +33,11 @@ pub trait Brancher {
     /// The moves that may be made at the node of this path while the best point that is known has this cut value, or none is.
     ghost allows: { WholeRows → List Slice → Option ℤ → Move → Type 0 };
 
-    /// Chooses the move of the place's node. The place still stands for the node afterwards, and may have become plain.
+    /// Chooses the move of the place's node, where `best` is the cut value of the best point that is known, from -2^97 to 2^97.
+    /// The place still stands for the node afterwards, and may have become plain.
+    ///
+    /// Its lines refute by themselves and use no cut but that of `best`, a split has at most one slice more than the greatest
+    /// difference between the bounds of a column, and a point is better than the best one. After a point the node is worked again.
     fn work(
         &mut self,
         place: &mut Self::Place,
@@ -50,7 +54,8 @@ pub trait Brancher {
             (IsMove (rows self.old) path.now best (height (rows self.old) place.new path.now) (is_plain place.new)) }
         ensures allowed { IfOk result (allows (rows self.old) path.now best) };
 
-    /// The place of child `j` of the place's node, which was split by `cut`: the slice with the value `cut.lo + j`.
+    /// The place of child `j`, from 0 to `count - 1`, of the place's node, for which the place chose the split `cut` under some best
+    /// value or none: the slice with the value `cut.lo + j`.
     fn child(&mut self, place: &Self::Place, cut: &Cut, j: i128) -> Result<Self::Place, NoMemory>
         requires branches { (path : List Slice) × (best : Option ℤ) × Branches stands_for height is_plain allows (rows self.old) place.now cut.now path best }
         requires first { pos 0 ≤ℤ j }

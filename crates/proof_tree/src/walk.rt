@@ -85,11 +85,12 @@ fn point_of(best: Option<Incumbent>) -> Option<Vect<Original>>
     best.map(|best| best.point)
 }
 
-/// Searches a tree from the root, for the brancher's rows, with a budget of so many nodes.
+/// Searches a tree from the root, which stands for the empty path under no best point, for the brancher's rows. At most so many
+/// nodes are worked, depth first and the slices of a split in order. A node counts once, however many points are found at it.
 ///
-/// `Done` comes where all nodes are closed, and `Spent` exactly where so many nodes were worked and another one is open. That
-/// never comes where there are as many nodes as `(w + 2) ^ (2 * n)`, where `n` is the number of columns and `w` the greatest
-/// difference between the bounds of one.
+/// `Done` comes where no node is left, and `Spent` exactly where so many nodes were worked and another one is open. `Spent`
+/// never comes where `nodes` is at least `(w + 2) ^ (2 * n)`, where `n` is the number of columns and `w` the greatest difference
+/// between the bounds of one, and at least 0.
 pub fn search<B: Brancher>(
     alloc: Global,
     brancher: &mut B,
@@ -103,6 +104,7 @@ pub fn search<B: Brancher>(
     ensures same { OnOk result (B.rows brancher.new ≡ rows.now) }
     ensures found { IfOk result (IsFound (B.allows rows.now) rows.now (B.is_plain root) nodes) }
 {
+    // Rows keep their limits, so the cut value of each point is small enough for `work`.
     let columns = rows.columns();
     prove!(columns <= 256);
     let mut walk = Walk {
