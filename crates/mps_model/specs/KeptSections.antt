@@ -3,20 +3,20 @@ use Rattle.std.specs.Prelude.{◌≡◌, ℕ, Bool, true, false, List, [], lengt
 use Rattle.std.specs.List.{list_any, last_or}
 use Rattle.mps_fields.specs.Lines.{Line}
 use Rattle.mps_model.specs.declared.layout.Layout.{Layout}
-use Rattle.mps_model.specs.declared.section.Section.{Section}
-use Rattle.mps_model.specs.declared.section.Section.TheVariants.{Columns as COLUMNS, Rhs as RHS, Ranges as RANGES, Bounds as BOUNDS}
-use Rattle.mps_model.specs.declared.data_fields.DataFields.{DataFields}
-use Rattle.mps_model.specs.declared.stop.LineStop.{LineStop}
-use Rattle.mps_model.specs.declared.text_tables.TextTables.{TextTables}
+use Rattle.mps_model.specs.declared.lines.section.Section.{Section}
+use Rattle.mps_model.specs.declared.lines.section.Section.TheVariants.{Columns as COLUMNS, Rhs as RHS, Ranges as RANGES, Bounds as BOUNDS}
+use Rattle.mps_model.specs.declared.lines.data_fields.DataFields.{DataFields}
+use Rattle.mps_model.specs.declared.line_stop.LineStop.{LineStop}
+use Rattle.mps_model.specs.declared.tables.text_tables.TextTables.{TextTables}
 use Rattle.mps_model.specs.SectionOrder.{is_same, sections_in}
 use Rattle.mps_model.specs.Tables.{RowLine, PairLine, Tables, tables_of}
 use Rattle.mps_model.specs.Bounds.{column_names}
 use Rattle.mps_model.specs.RowFaults.{row_names}
 use Rattle.mps_model.specs.LineFaults.{data_fault}
-use Rattle.mps_model.specs.CutLines.{Cuts}
+use Rattle.mps_model.specs.FieldCuts.{Cuts}
 use Rattle.mps_model.specs.AddedLines.{with_line}
 use Rattle.mps_model.specs.Judging.{Judges}
-use Rattle.mps_model.specs.KeptOrder.{are_in_order}
+use Rattle.mps_model.specs.KeptSectionOrder.{are_in_order}
 use Rattle.mps_model.specs.KeptColumns.{KeepsColumns}
 use Rattle.mps_model.specs.KeptSides.{KeepsPairs, KeepsRanges}
 use Rattle.mps_model.specs.KeptBounds.{KeepsBounds}

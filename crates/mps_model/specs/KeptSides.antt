@@ -4,11 +4,11 @@ use Rattle.std.specs.Option.{option_copied}
 use Rattle.exact_math.specs.Rational.{ℚ}
 use Rattle.mps_model.specs.declared.fault.FaultKind.{FaultKind}
 use Rattle.mps_model.specs.declared.fault.FaultKind.TheVariants as faults
-use Rattle.mps_model.specs.declared.sides.SideTable.{SideTable}
-use Rattle.mps_model.specs.declared.row_sides.RowSides.{RowSides}
+use Rattle.mps_model.specs.declared.tables.sides.SideTable.{SideTable}
+use Rattle.mps_model.specs.declared.model.row_sides.RowSides.{RowSides}
 use Rattle.mps_model.specs.Tables.{RowLine, Pair, PairLine}
 use Rattle.mps_model.specs.Sides.{Sides, zero_ℚ, number_beside, pairs_of, range_step, sum_fits}
-use Rattle.mps_model.specs.Rules.{first_holding}
+use Rattle.mps_model.specs.FaultRules.{first_holding}
 use Rattle.mps_model.specs.RowFaults.{row_names}
 use Rattle.mps_model.specs.PairFaults.{first_label, is_second_set}
 

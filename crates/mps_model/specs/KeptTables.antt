@@ -2,14 +2,14 @@
 use Rattle.std.specs.Prelude.{◌≡◌, ℕ, true, List, slice_get, Some, unwrap_or, IfSome}
 use Rattle.std.specs.List.{HoldsAt}
 use Rattle.frac128.specs.Range.{SumInRange}
-use Rattle.mps_model.specs.declared.columns.ColumnTable.{ColumnTable}
-use Rattle.mps_model.specs.declared.factors.RowFactors.{RowFactors}
-use Rattle.mps_model.specs.declared.sides.SideTable.{SideTable}
-use Rattle.mps_model.specs.declared.bounds.BoundTable.{BoundTable}
+use Rattle.mps_model.specs.declared.tables.columns.ColumnTable.{ColumnTable}
+use Rattle.mps_model.specs.declared.tables.factors.RowFactors.{RowFactors}
+use Rattle.mps_model.specs.declared.tables.sides.SideTable.{SideTable}
+use Rattle.mps_model.specs.declared.tables.bounds.BoundTable.{BoundTable}
 use Rattle.mps_model.specs.Tables.{RowLine, Tables}
 use Rattle.mps_model.specs.Sides.{zero_ℚ, has_sides, range_step}
 use Rattle.mps_model.specs.Bounds.{column_names}
-use Rattle.mps_model.specs.Stated.{items_of}
+use Rattle.mps_model.specs.StatedModel.{items_of}
 use Rattle.mps_model.specs.RowFaults.{row_names}
 use Rattle.mps_model.specs.KeptColumns.{KeepsColumns}
 use Rattle.mps_model.specs.KeptSides.{number_in, KeepsPairs, KeepsRanges}
