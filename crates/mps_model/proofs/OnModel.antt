@@ -5,3 +5,4 @@ pub mod ModelLimitLaws
 pub mod StatedRowLaws
 pub mod ColumnJudgementLaws
 pub mod FaultlessColumnLaws
+pub mod RangedSideLaws

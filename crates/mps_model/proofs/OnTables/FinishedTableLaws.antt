@@ -3,7 +3,6 @@ use Rattle.std.proofs.Common.{◌≡◌, ℕ, true, true≢false, List, length, 
 use Rattle.std.specs.Prelude.{is_some, slice_get, unwrap_or, IfSome, IsSomeAnd}
 use Rattle.std.specs.List.{list_any}
 use Rattle.std.proofs.lemmas.List.{length-map}
-use Rattle.frac128.specs.Range.{SumInRange}
 use Rattle.mps_fields.specs.Lines.{Line}
 use Rattle.mps_model.specs.declared.layout.Layout.{Layout}
 use Rattle.mps_model.specs.declared.lines.section.Section.TheVariants.{Columns as COLUMNS}
@@ -11,17 +10,15 @@ use Rattle.mps_model.specs.declared.tables.columns.ColumnTable.{ColumnTable}
 use Rattle.mps_model.specs.declared.tables.text_tables.TextTables.{TextTables}
 use Rattle.mps_model.specs.SectionOrder.{is_same, sections_in}
 use Rattle.mps_model.specs.Tables.{RowLine, tables_of}
-use Rattle.mps_model.specs.Sides.{zero_ℚ, range_step}
 use Rattle.mps_model.specs.Bounds.{column_names}
 use Rattle.mps_model.specs.RowFaults.{row_names}
 use Rattle.mps_model.specs.FactorTables.{factors_of}
 use Rattle.mps_model.specs.KeptColumns.{KeepsColumns}
-use Rattle.mps_model.specs.KeptSides.{number_in, KeepsPairs, KeepsRanges}
+use Rattle.mps_model.specs.KeptSides.{KeepsPairs, KeepsRanges}
 use Rattle.mps_model.specs.KeptBounds.{KeepsBounds}
-use Rattle.mps_model.specs.KeptTables.{KeepsTables, AreNarrow}
+use Rattle.mps_model.specs.KeptTables.{KeepsTables}
 use Rattle.mps_model.specs.KeptSections.{KeepsSections, IsSized, IsBuildable}
 use Rattle.mps_model.proofs.OnTables.TakenLineLaws.{kept_so_far, no_sides, no_ranges, no_bounds}
-use Rattle.mps_model.proofs.OnTables.RangeTableLaws.{kept_narrow}
 
 module _ (layout : Layout) (above : List Line) (kept : TextTables) (now : KeepsSections (sections_in above) (tables_of layout above) kept) where
   sides_kept : KeepsPairs (row_names (tables_of layout above).rows) (tables_of layout above).sides kept.sides
@@ -60,14 +57,6 @@ module _ (layout : Layout) (above : List Line) (kept : TextTables) (now : KeepsS
   there_at None came h = absurd (true≢false (sym came))
   there_at (Some columns) came h = factors_sized columns h
 
-  narrow_at : (place : ℕ) (o : Option RowLine) → slice_get (tables_of layout above).rows place ≡ o
-      → IfSome o (λ row. IfSome (number_in kept.ranges.numbers.items place) (λ range. SumInRange (unwrap_or (number_in kept.sides.numbers.items place) zero_ℚ) (range_step row range)))
-  narrow_at place None at = tt
-  narrow_at place (Some row) at = kept_narrow (tables_of layout above) kept.sides kept.ranges row place at sides_kept ranges_kept
-
   -- behind COLUMNS the tables can be made a model
   pub kept_buildable : list_any (is_same COLUMNS) (sections_in above) ≡ true → IsBuildable kept
-  kept_buildable came = record {
-    columns = there_at kept.columns (now.has_columns ∙ came) now.columns;
-    narrow = subst (λ rows. AreNarrow rows kept.sides kept.ranges) (sym now.rows) (λ place. narrow_at place (slice_get (tables_of layout above).rows place) refl);
-  }
+  kept_buildable came = there_at kept.columns (now.has_columns ∙ came) now.columns

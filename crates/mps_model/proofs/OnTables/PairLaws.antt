@@ -46,6 +46,17 @@ beside_push pairs pair name =
     ∙ map_or (λ other. number_at other.number) (find (λ other. bytes_eq other.name name) pairs) (find (λ other. bytes_eq other.name name) (pair ∷ []))
     ∙ ap (option_or (number_beside pairs name)) (map_cond (λ other. number_at other.number) (bytes_eq pair.name name) pair)
 
+-- with its own pair a name that had none has its number, and each other name what it had
+pub beside_new : (pairs : List Pair) (pair : Pair) (q : ℚ) → number_of pair.number ≡ Ok q → number_beside pairs pair.name ≡ None
+    → number_beside (pairs ++ pair ∷ []) pair.name ≡ Some q
+beside_new pairs pair q value none =
+    beside_push pairs pair pair.name ∙ ap (λ o. option_or o (cond (bytes_eq pair.name pair.name) (Some (number_at pair.number)) None)) none
+    ∙ ap (λ b. cond b (Some (number_at pair.number)) None) (bytes_same pair.name) ∙ ap (λ r. Some (number_or_zero r)) value
+
+pub beside_other : (pairs : List Pair) (pair : Pair) (other : List ℕ) → bytes_eq pair.name other ≡ false → number_beside (pairs ++ pair ∷ []) other ≡ number_beside pairs other
+beside_other pairs pair other differ =
+    beside_push pairs pair other ∙ ap (λ b. option_or (number_beside pairs other) (cond b (Some (number_at pair.number)) None)) differ ∙ or_none (number_beside pairs other)
+
 found_step : (pair : Pair) (rest : Option Pair) (b among : Bool) → is_some (option_map (λ other. number_at other.number) rest) ≡ among
     → is_some (option_map (λ other. number_at other.number) (cond b (Some pair) rest)) ≡ (b || among)
 found_step pair rest true among h = refl
@@ -66,17 +77,17 @@ not_chosen false x h = refl
 -- ---- numbers by the places of names
 
 -- the number at the place of a name
-pub number_at_place : (f : List ℕ → Option ℚ) (numbers : List (Option ℚ)) (name : List ℕ) (names : List (List ℕ)) (place : ℕ) → numbers ≡ map f names
-    → slice_get names place ≡ Some name → number_in numbers place ≡ f name
-number_at_place f numbers name names place kept at =
-    ap (λ ns. number_in ns place) kept ∙ ap (λ o. unwrap_or o None) (slice_get-map f names place ∙ ap (option_map f) at)
+pub number_at_place : {X : Type 0} (f : X → Option ℚ) (numbers : List (Option ℚ)) (x : X) (xs : List X) (place : ℕ) → numbers ≡ map f xs
+    → slice_get xs place ≡ Some x → number_in numbers place ≡ f x
+number_at_place f numbers x xs place kept at =
+    ap (λ ns. number_in ns place) kept ∙ ap (λ o. unwrap_or o None) (slice_get-map f xs place ∙ ap (option_map f) at)
 
 none_in : (k i : ℕ) → number_in (replicate k None) i ≡ None
 none_in zero i = refl
 none_in (suc k) zero = refl
 none_in (suc k) (suc i) = none_in k i
 
-padding_tells_nothing : (numbers : List (Option ℚ)) (k i : ℕ) → number_in (numbers ++ replicate k None) i ≡ number_in numbers i
+pub padding_tells_nothing : (numbers : List (Option ℚ)) (k i : ℕ) → number_in (numbers ++ replicate k None) i ≡ number_in numbers i
 padding_tells_nothing [] k i = none_in k i
 padding_tells_nothing (x ∷ xs) k zero = refl
 padding_tells_nothing (x ∷ xs) k (suc i) = padding_tells_nothing xs k i
@@ -101,9 +112,7 @@ module _ (names : List (List ℕ)) (distinct : IsDistinct bytes_eq names) (pairs
       let none : number_beside pairs pair.name ≡ None = none_from (number_beside pairs pair.name) (beside_found pairs pair.name ∙ sym place_taken ∙ free) in
       ap (λ ns. set ns place (Some q)) kept
       ∙ sym (map_at (number_beside pairs) (number_beside (pairs ++ pair ∷ [])) (Some q) pair.name names place distinct first
-      (beside_push pairs pair pair.name ∙ ap (λ o. option_or o (cond (bytes_eq pair.name pair.name) (Some (number_at pair.number)) None)) none
-      ∙ ap (λ b. cond b (Some (number_at pair.number)) None) (bytes_same pair.name) ∙ ap (λ r. Some (number_or_zero r)) value)
-      (λ other differ. beside_push pairs pair other ∙ ap (λ b. option_or (number_beside pairs other) (cond b (Some (number_at pair.number)) None)) differ ∙ or_none (number_beside pairs other)))
+      (beside_new pairs pair q value none) (beside_other pairs pair))
 
 -- ---- the faults of a pair
 

@@ -89,31 +89,37 @@ nothing_behind : {X : Type 0} (n : ℕ) (x : X) → replicate (n - n) x ≡ []
 nothing_behind n x = let e : n - n ≡ 0 = omega arith in ap (λ m. replicate m x) e
 
 -- a full table is not padded
-full : (names : List (List ℕ)) (f : List ℕ → Option ℚ) (numbers : List (Option ℚ)) → numbers ≡ map f names → padded (length names) numbers ≡ map f names
-full names f numbers e = rw (e, length-map names f) (ap (λ rest. map f names ++ rest) (nothing_behind (length names) None) ∙ append-nil (map f names))
+pub full : {X : Type 0} (xs : List X) (f : X → Option ℚ) (numbers : List (Option ℚ)) → numbers ≡ map f xs → padded (length xs) numbers ≡ map f xs
+full xs f numbers e = rw (e, length-map xs f) (ap (λ rest. map f xs ++ rest) (nothing_behind (length xs) None) ∙ append-nil (map f xs))
 
-nones : (names : List (List ℕ)) → replicate (length names) None ≡ map (number_beside []) names
+nones : {X : Type 0} (xs : List X) → replicate {A = Option ℚ} (length xs) None ≡ map (λ (x : X). None) xs
 nones [] = refl
 nones (x ∷ xs) = ap (λ rest. None ∷ rest) (nones xs)
 
-none_beside : (names : List (List ℕ)) → padded (length names) [] ≡ map (number_beside (pairs_of [])) names
-none_beside names = let e : length names - 0 ≡ length names = omega arith in ap (λ n. replicate n None) e ∙ nones names
+-- an empty table is padded with nothing at all
+pub none_kept : {X : Type 0} (xs : List X) → padded (length xs) [] ≡ map (λ (x : X). None) xs
+none_kept xs = let e : length xs - 0 ≡ length xs = omega arith in ap (λ n. replicate n None) e ∙ nones xs
 
 -- the table before the first line
 pub keeps_none : (names : List (List ℕ)) (table : SideTable) → table.set ≡ None → table.numbers.items ≡ [] → KeepsPairs names [] table
 keeps_none names table no_set no_numbers = record {
   set = ap option_copied no_set;
-  numbers = rw no_numbers (none_beside names);
+  numbers = rw no_numbers (none_kept names);
 }
+
+-- the set name behind one more line
+pub label_kept : (lines : List PairLine) (line : PairLine) (label : Bor (List ℕ)) (old new : SideTable) → option_copied old.set ≡ first_label lines
+    → line.label ≡ label.now → new.set ≡ option_or old.set (Some label) → option_copied new.set ≡ first_label (lines ++ line ∷ [])
+label_kept lines line label old new kept same set =
+    ap option_copied set ∙ copied_or old.set label ∙ ap (λ o. option_or o (Some label.now)) kept ∙ ap (λ l. option_or (first_label lines) (Some l)) (sym same)
+    ∙ sym (label_push lines line)
 
 -- the table with one more line
 pub keeps_line : (names : List (List ℕ)) (lines : List PairLine) (line : PairLine) (label : Bor (List ℕ)) (old new : SideTable) → KeepsPairs names lines old
     → line.label ≡ label.now → new.set ≡ option_or old.set (Some label) → new.numbers.items ≡ map (number_beside (pairs_of lines ++ line.pairs)) names
     → KeepsPairs names (lines ++ line ∷ []) new
 keeps_line names lines line label old new kept same set numbers = record {
-  set =
-      ap option_copied set ∙ copied_or old.set label ∙ ap (λ o. option_or o (Some label.now)) kept.set ∙ ap (λ l. option_or (first_label lines) (Some l)) (sym same)
-      ∙ sym (label_push lines line);
+  set = label_kept lines line label old new kept.set same set;
   numbers =
       full names (number_beside (pairs_of lines ++ line.pairs)) new.numbers.items numbers
       ∙ ap (λ pairs. map (number_beside pairs) names) (sym (pairs_push lines line));
@@ -128,7 +134,6 @@ room_made names rows lines old numbers count are kept is_count made =
     made ∙ ap (λ n. old.numbers.items ++ replicate (n - length old.numbers.items) None) long ∙ kept.numbers
 
 -- two pairs behind the others are the line's
-pub both_pairs : (names : List (List ℕ)) (lines : List PairLine) (line : PairLine) (pair other : Pair) → line.pairs ≡ pair ∷ other ∷ []
-    → map (number_beside ((pairs_of lines ++ pair ∷ []) ++ other ∷ [])) names ≡ map (number_beside (pairs_of lines ++ line.pairs)) names
-both_pairs names lines line pair other are =
-    ap (λ pairs. map (number_beside pairs) names) (append_assoc (pairs_of lines) (pair ∷ []) (other ∷ []) ∙ ap (λ pairs. pairs_of lines ++ pairs) (sym are))
+pub both_pairs : {X : Type 0} (f : List Pair → X) (lines : List PairLine) (line : PairLine) (pair other : Pair) → line.pairs ≡ pair ∷ other ∷ []
+    → f ((pairs_of lines ++ pair ∷ []) ++ other ∷ []) ≡ f (pairs_of lines ++ line.pairs)
+both_pairs f lines line pair other are = ap f (append_assoc (pairs_of lines) (pair ∷ []) (other ∷ []) ∙ ap (λ pairs. pairs_of lines ++ pairs) (sym are))

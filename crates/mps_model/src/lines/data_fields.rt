@@ -10,10 +10,10 @@ ghost use Rattle.mps_model.specs.SixFieldViews.{text_of, fields_view, places_vie
 ghost use Rattle.mps_model.specs.DataLineViews.{row_view, pair_line_view, bound_view};
 ghost use Rattle.mps_model.specs.FieldCuts.{IsCutOf, Cuts, Says};
 
+use crate::layout::Layout;
 use crate::lines::bound_kind::BoundKind;
 use crate::lines::data_line::{BoundLine, PairLine, RowLine, marker_word};
-use crate::layout::Layout;
-use crate::lines::six_fields::{SixFields, Rule, free_places};
+use crate::lines::six_fields::{Rule, SixFields, free_places};
 use mps_fields::{Field, FreeFields, TextLine, fields_fixed, fields_free};
 
 /// The fields as the layout cuts them.

@@ -8,9 +8,9 @@ ghost use Rattle.mps_model.specs.Meaning.{column_kind, first_column_fault};
 ghost use Rattle.mps_model.specs.KeptBounds.{said_of, KeepsBounds};
 ghost use Rattle.mps_model.specs.KeptColumns.{start_of};
 
+use crate::fault::{FaultKind, TextFault};
 use crate::tables::bounds::{BoundTable, ColumnBounds};
 use crate::tables::columns::ColumnStart;
-use crate::fault::{FaultKind, TextFault};
 use frac128::Frac;
 
 // Whether a number is below 0.

@@ -12,15 +12,15 @@ ghost use Rattle.mps_model.specs.RowKinds.{rows_of};
 ghost use Rattle.mps_model.specs.FactorTables.{factors_of};
 ghost use Rattle.mps_model.specs.KeptBounds.{KeepsBounds};
 ghost use Rattle.mps_model.specs.KeptSides.{KeepsPairs, KeepsRanges};
-ghost use Rattle.mps_model.specs.KeptTables.{KeepsTables, AreNarrow, HaveItems};
+ghost use Rattle.mps_model.specs.KeptTables.{KeepsTables, HaveItems};
 ghost use Rattle.mps_model.specs.ModelLimits.{KeepsLimits};
 
+use crate::model::row_sides::RowSides;
 use crate::tables::bounds::BoundTable;
 use crate::tables::columns::ColumnTable;
 use crate::tables::factors::RowFactors;
 use crate::tables::names::Names;
 use crate::tables::row_kind::RowKind;
-use crate::model::row_sides::RowSides;
 use crate::tables::rows::RowTable;
 use crate::tables::sides::{SideTable, constant_of};
 use frac128::Frac;
@@ -88,7 +88,6 @@ fn build_rows(
 ) -> Result<Rows, NoMemory>
     requires kinds { length kinds.now ≡ length names }
     requires factors { length factors.old ≡ length names }
-    requires narrow { AreNarrow (rows_of kinds.now names) sides.now ranges.now }
     ensures { IfOk result (λ rows. (tables : Tables) → rows_of kinds.now names ≡ tables.rows
         → KeepsPairs (row_names tables.rows) tables.sides sides.now → KeepsRanges tables.rows tables.sides tables.ranges ranges.now
         → HaveItems tables factors.old → rows ≡ map (stated_row tables) (sided_rows tables.rows)) }
@@ -120,7 +119,6 @@ pub(crate) fn build(
     given: &Option<Frac>,
 ) -> Result<Model, NoMemory>
     requires factors { length columns.factors.rows.items ≡ length rows }
-    requires narrow { AreNarrow rows sides.now ranges.now }
     ensures { IfOk result (λ model. (tables : Tables) (upper : Option ℤ) → KeepsTables tables rows columns sides.now ranges.now bounds.now
         → given.now ≡ option_map whole upper → (model ≡ stated upper tables) × KeepsLimits model) }
 {

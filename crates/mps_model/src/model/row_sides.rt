@@ -1,10 +1,9 @@
 //! The sides of a row, from its kind, its right side and its range.
-ghost use Rattle.std.specs.Prelude.{◌≡◌, ℕ, List, option_map, IfSome};
-ghost use Rattle.exact_math.specs.Rational.{ℚ};
-ghost use Rattle.frac128.specs.Range.{SumInRange};
-ghost use Rattle.mps_model.specs.Sides.{absolute as absolute_of, range_step as step_of, plain_sides as sides_without_range, stepped_sides as sides_stepped, ranged_sides};
+ghost use Rattle.std.specs.Prelude.{◌≡◌, ℕ, List, Option};
+ghost use Rattle.exact_math.specs.Rational.{ℚ, ◌+ℚ◌};
+ghost use Rattle.mps_model.specs.Sides.{absolute as absolute_of, range_step as step_of, plain_sides as sides_without_range, stepped_sides, ranged_sides};
 ghost use Rattle.mps_model.specs.RowKinds.{row_of};
-ghost use Rattle.mps_model.specs.KeptSides.{sides_view};
+ghost use Rattle.mps_model.specs.KeptSides.{sides_view, range_end};
 
 use crate::tables::row_kind::RowKind;
 use frac128::Frac;
@@ -26,15 +25,11 @@ fn absolute(number: Frac) -> Frac
     }
 }
 
-// The sides between a right side and a step away from it.
-fn stepped_sides(side: Frac, step: Frac) -> RowSides
-    requires { SumInRange side step }
-    ensures { sides_view result ≡ sides_stepped side step }
+// The sides between a right side and the end to which a range goes from it.
+fn sides_between(side: Frac, end: Frac) -> RowSides
+    ensures { (step : ℚ) → end ≡ side +ℚ step → sides_view result ≡ stepped_sides side step }
 {
-    let Ok(end) = side.add(&step) else {
-        unreachable!();
-    };
-    if step.num() < 0 {
+    if end < side {
         RowSides {
             lo: Some(end),
             hi: Some(side),
@@ -79,13 +74,13 @@ impl RowKind {
         }
     }
 
-    /// The sides of a row with this right side, and with this range if it has one.
-    pub(crate) fn sides(self, side: Frac, range: Option<Frac>) -> RowSides
-        requires { (name : List ℕ) → IfSome range (λ range. SumInRange side (step_of (row_of self name) range)) }
-        ensures { (name : List ℕ) → sides_view result ≡ ranged_sides (row_of self name) side range }
+    /// The sides of a row with this right side, and with a range that goes from there to this end, if it has one.
+    pub(crate) fn sides(self, side: Frac, end: Option<Frac>) -> RowSides
+        ensures { (name : List ℕ) (range : Option ℚ) → end ≡ range_end side (row_of self name) range
+            → sides_view result ≡ ranged_sides (row_of self name) side range }
     {
-        match range {
-            Some(range) => stepped_sides(side, self.range_step(range)),
+        match end {
+            Some(end) => sides_between(side, end),
             None => self.plain_sides(side),
         }
     }

@@ -13,11 +13,11 @@ ghost use Rattle.mps_model.specs.DataLineViews.{bound_view};
 ghost use Rattle.mps_model.specs.Judging.{Judges, kind_of};
 ghost use Rattle.mps_model.specs.KeptBounds.{said_of, nothing_said, with_entry, KeepsBounds};
 
+use crate::fault::FaultKind;
+use crate::line_stop::LineStop;
 use crate::lines::bound_kind::BoundKind;
 use crate::lines::data_line::BoundLine;
-use crate::fault::FaultKind;
 use crate::tables::names::Names;
-use crate::line_stop::LineStop;
 use frac128::Frac;
 use mps_fields::number;
 use std::alloc::Global;

@@ -2,12 +2,12 @@
 ghost use Rattle.std.specs.Prelude.{◌≡◌, ◌≤◌, [], ◌∷◌, ◌++◌, ℕ, List, length, option_map, option_to_list, false, IfOk};
 ghost use Rattle.std.specs.Option.{option_copied};
 
+use crate::fault::FaultKind;
+use crate::line_stop::LineStop;
 use crate::lines::data_line::PairLine;
 use crate::tables::factors::FactorTable;
-use crate::fault::FaultKind;
 use crate::tables::names::Names;
 use crate::tables::rows::RowTable;
-use crate::line_stop::LineStop;
 use sequence::NoMemory;
 use std::alloc::Global;
 

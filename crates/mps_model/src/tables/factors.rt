@@ -10,10 +10,10 @@ ghost use Rattle.mps_model.specs.ColumnTables.{is_stated_row, with_pair, IsLastC
 ghost use Rattle.mps_model.specs.FactorTables.{KeepsFactors};
 ghost use Rattle.mps_model.specs.Judging.{Judges};
 
-use crate::lines::data_line::Pair;
 use crate::fault::FaultKind;
-use crate::tables::rows::RowTable;
 use crate::line_stop::LineStop;
+use crate::lines::data_line::Pair;
+use crate::tables::rows::RowTable;
 use frac128::Frac;
 use int_model::{Item, Items};
 use mps_fields::number;

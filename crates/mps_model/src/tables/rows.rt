@@ -9,11 +9,11 @@ ghost use Rattle.mps_model.specs.RowKinds.{letter_of, row_of, rows_of};
 ghost use Rattle.mps_model.specs.DataLineViews.{row_view};
 ghost use Rattle.mps_model.specs.Judging.{Judges};
 
-use crate::lines::data_line::RowLine;
 use crate::fault::FaultKind;
+use crate::line_stop::LineStop;
+use crate::lines::data_line::RowLine;
 use crate::tables::names::Names;
 use crate::tables::row_kind::RowKind;
-use crate::line_stop::LineStop;
 use sequence::NoMemory;
 use std::alloc::Global;
 use std::marker::Model;

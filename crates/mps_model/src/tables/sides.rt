@@ -9,19 +9,20 @@ ghost use Rattle.mps_model.specs.RowKinds.{letter_of};
 ghost use Rattle.mps_model.specs.PairFaults.{pair_fault, range_fault, set_fault};
 ghost use Rattle.mps_model.specs.DataLineViews.{pair_view, pair_line_view};
 ghost use Rattle.mps_model.specs.Judging.{Judges};
-ghost use Rattle.mps_model.specs.KeptSides.{opening_fault, number_in, names_in, padded, sides_view, KeepsPairs, KeepsRanges};
+ghost use Rattle.mps_model.specs.KeptSides.{opening_fault, number_in, names_in, padded, sides_view, end_in, KeepsPairs, KeepsRanges};
 
-use crate::lines::data_line::{Pair, PairLine};
 use crate::fault::FaultKind;
-use crate::tables::row_kind::RowKind;
-use crate::model::row_sides::RowSides;
-use crate::tables::rows::RowTable;
 use crate::line_stop::LineStop;
+use crate::lines::data_line::{Pair, PairLine};
+use crate::model::row_sides::RowSides;
+use crate::tables::row_kind::RowKind;
+use crate::tables::rows::RowTable;
 use frac128::Frac;
 use mps_fields::number;
 use std::alloc::Global;
 
-/// The numbers that RHS or RANGES gives to the rows, by their places, and the set name of the first line.
+/// The numbers that RHS or RANGES gives to the rows, by their places, and the set name of the first line. RHS gives a row
+/// its right side, RANGES the end to which its range goes from there.
 #[derive(Drop)]
 pub(crate) struct SideTable<'a> {
     pub(crate) set: Option<&'a [u8]>,
@@ -124,13 +125,13 @@ impl<'a> SideTable<'a> {
         }
     }
 
-    // Judges a pair of RANGES, and takes its number.
+    // Judges a pair of RANGES, and takes the end of its range.
     fn add_range(&mut self, rows: &RowTable, sides: &SideTable, pair: Pair) -> Result<(), LineStop>
         requires { length rows.now ≤ length self.old.numbers.items }
         ensures judged { (above : Tables) (pairs : List PairSaid) → above.rows ≡ rows.now → KeepsPairs (row_names rows.now) above.sides sides.now
-            → self.old.numbers.items ≡ map (number_beside pairs) (row_names rows.now)
+            → self.old.numbers.items ≡ map (end_in above.sides pairs) rows.now
             → Judges (range_fault above (names_in pairs) (pair_view pair.entry))
-            (self.new.numbers.items ≡ map (number_beside (pairs ++ pair_view pair.entry ∷ [])) (row_names rows.now)) result }
+            (self.new.numbers.items ≡ map (end_in above.sides (pairs ++ pair_view pair.entry ∷ [])) rows.now) result }
         ensures set { self.new.set ≡ self.old.set }
         ensures len { length self.new.numbers.items ≡ length self.old.numbers.items }
     {
@@ -143,13 +144,13 @@ impl<'a> SideTable<'a> {
         }
         let range = number(pair.number)?;
         let side = sides.number_or_zero(row);
-        if side.add(&kind.range_step(range)).is_err() {
+        let Ok(end) = side.add(&kind.range_step(range)) else {
             return Err(LineStop::Fault(FaultKind::WideNumber));
-        }
-        self.put(row, range)
+        };
+        self.put(row, end)
     }
 
-    /// Judges what a line of RANGES says, beside the right sides of the rows, and takes its numbers.
+    /// Judges what a line of RANGES says, beside the right sides of the rows, and takes the ends of its ranges.
     pub(crate) fn add_ranges(
         &mut self,
         rows: &RowTable,

@@ -11,15 +11,6 @@ use Rattle.mps_model.proofs.OnLists.ListBuildingLaws as Laws
 use Rattle.mps_model.proofs.OnModel.BuiltRowLaws as Rows
 use Rattle.mps_model.proofs.model.model_building.build_rows.Goals as goal
 
-pub sides-lo-requires : goal.sides-lo-requires
-sides-lo-requires c =
-    let steps = c.in-Some.ensures.steps in
-    let t = Laws.turn (λ name. name.items) c.args.names (enumerate_count c.loop-place.place-iterator) c.in-Some.name (enumerate_source c.loop-place.place-iterator)
-    (enumerate_source c.next.new.self) [] c.loop-place.invariant.left steps.0 in
-    let inside : c.in-Some.place < length c.args.names = omega (arith, t.within, steps.1) in
-    Rows.narrow_at c.args.kinds.now c.args.names c.args.sides.now c.args.ranges.now c.in-Some.place _ c.number_or_zero.result c.number.result
-    c.requires.narrow c.requires.kinds inside c.number_or_zero.ensures c.number.ensures
-
 pub loop-place-preserved-in-Continue-1 : goal.loop-place-preserved-in-Continue-1
 loop-place-preserved-in-Continue-1 c =
     let steps = c.in-Some.ensures.steps in

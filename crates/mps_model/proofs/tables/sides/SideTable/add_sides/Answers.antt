@@ -50,7 +50,7 @@ returns-in-Some c = λ lines kept.
     (two_pairs (pair_fault c.args.rows.now) (pair_asks c.args.rows.now) lines line (fine d lines kept) first second are one.0)
     (λ none numbers.
     keeps_line names lines line c.in_ok-line.line.label c.args.self.now c.add_side-in-Some.new.self kept refl
-    (c.add_side-in-Some.ensures.set ∙ c.in_ok-add_side.ensures.set ∙ c.in_ok-line.ensures.set) (numbers ∙ both_pairs names lines line first second are))
+    (c.add_side-in-Some.ensures.set ∙ c.in_ok-add_side.ensures.set ∙ c.in_ok-line.ensures.set) (numbers ∙ both_pairs (λ pairs. map (number_beside pairs) names) lines line first second are))
     (c.add_side-in-Some.ensures.judged (pairs_of lines ++ first ∷ []) one.1))
 
 pub returns-in-None : goal.returns-in-None
