@@ -1,7 +1,7 @@
 -- The fields found so far, with those of the rest, are the fields of the line.
 use Rattle.std.proofs.Common.{◌≡◌, ℕ, zero, suc, ◌+◌, ◌≤◌, List, [], ◌∷◌, ◌++◌, length, take, refl, sym, ap, ◌∙◌, arith, append_assoc}
 use Rattle.std.proofs.lemmas.List.{length-take}
-use Rattle.mps_fields.specs.Lines.{Line}
+use Rattle.mps_fields.specs.Lines.{Line, most_bytes}
 use Rattle.mps_fields.specs.FreeFields.{FreeLine, fields_from, free_fields, with_field}
 use Rattle.mps_fields.specs.FieldViews.{cut_span, CutsFirst}
 use Rattle.mps_fields.specs.declared.runs.Cut.{Cut}
@@ -11,8 +11,8 @@ pub record IsFound (found : FreeLine) (line : Line) (place : ℕ) (rest : List �
   pub count : found.count + length (fields_from place rest) ≡ length (free_fields line.bytes)
   pub number : found.number ≡ line.number
   pub few : length found.fields ≤ 6
-  pub within : place + length rest ≤ 16777216
-  pub fewer : found.count + length rest ≤ 16777216
+  pub within : place + length rest ≤ most_bytes
+  pub fewer : found.count + length rest ≤ most_bytes
 
 -- what stands behind the front of a front
 take-take_append : {X : Type 0} (n : ℕ) (xs ys : List X) → take n (take n xs ++ ys) ≡ take n (xs ++ ys)

@@ -7,7 +7,7 @@ use Rattle.mps_model.specs.declared.fault.FaultKind.TheVariants as faults
 use Rattle.mps_model.specs.declared.tables.sides.SideTable.{SideTable}
 use Rattle.mps_model.specs.declared.model.row_sides.RowSides.{RowSides}
 use Rattle.mps_model.specs.Tables.{RowLine, Pair, PairLine}
-use Rattle.mps_model.specs.Sides.{Sides, zero_ℚ, number_beside, pairs_of, range_step}
+use Rattle.mps_model.specs.Sides.{Sides, side_in, number_beside, pairs_of, range_step}
 use Rattle.mps_model.specs.FaultRules.{first_holding}
 use Rattle.mps_model.specs.PairFaults.{first_label, is_second_set}
 
@@ -32,10 +32,6 @@ padded count numbers = numbers ++ replicate (count - length numbers) None
 pub record KeepsPairs (names : List (List ℕ)) (lines : List PairLine) (table : SideTable) : Type 0 where
   pub set : option_copied table.set ≡ first_label lines
   pub numbers : padded (length names) table.numbers.items ≡ map (number_beside (pairs_of lines)) names
-
--- the side of a row that lines of RHS give
-abbrev pub side_in : List PairLine → List ℕ → ℚ
-side_in sides name = unwrap_or (number_beside (pairs_of sides) name) zero_ℚ
 
 -- the end to which a range, if there is one, goes from the side of a row
 abbrev pub range_end : ℚ → RowLine → Option ℚ → Option ℚ

@@ -12,13 +12,3 @@ rule_passes b kind rules h = rw h refl
 pub last_rule : (b : Bool) (kind : FaultKind) → first_holding ((b, kind) ∷ []) ≡ cond b (Some kind) None
 last_rule true kind = refl
 last_rule false kind = refl
-
--- where no rule holds, the fifth does not
-pub fifth_fails : (a b c d e : Bool) (A B C D E : FaultKind) (rules : List (Bool × FaultKind))
-    → first_holding ((a, A) ∷ (b, B) ∷ (c, C) ∷ (d, D) ∷ (e, E) ∷ rules) ≡ None → e ≡ false
-fifth_fails true b c d e A B C D E rules h = cc
-fifth_fails false true c d e A B C D E rules h = cc
-fifth_fails false false true d e A B C D E rules h = cc
-fifth_fails false false false true e A B C D E rules h = cc
-fifth_fails false false false false true A B C D E rules h = cc
-fifth_fails false false false false false A B C D E rules h = refl

@@ -14,13 +14,13 @@ use Rattle.mps_model.specs.declared.fault.FaultKind.TheVariants as faults
 use Rattle.mps_model.specs.declared.tables.row_kind.RowKind.{RowKind}
 use Rattle.mps_model.specs.declared.tables.sides.SideTable.{SideTable}
 use Rattle.mps_model.specs.Tables.{RowLine, Pair, PairLine, Tables}
-use Rattle.mps_model.specs.Sides.{is_free_row, has_sides, zero_ℚ, number_beside, pairs_of, side_of, range_step, sum_fits}
+use Rattle.mps_model.specs.Sides.{is_free_row, has_sides, zero_ℚ, number_beside, pairs_of, side_in, side_of, range_step, sum_fits}
 use Rattle.mps_model.specs.FaultRules.{first_holding, is_among, is_not_number, is_wide_number}
 use Rattle.mps_model.specs.RowFaults.{row_names}
 use Rattle.mps_model.specs.PairFaults.{row_named, has_wide_side, range_fault}
 use Rattle.mps_model.specs.RowKinds.{letter_of, row_of}
 use Rattle.mps_model.specs.Judging.{kind_of}
-use Rattle.mps_model.specs.KeptSides.{number_in, names_in, padded, side_in, range_end, end_in, KeepsPairs, KeepsRanges}
+use Rattle.mps_model.specs.KeptSides.{number_in, names_in, padded, range_end, end_in, KeepsPairs, KeepsRanges}
 use Rattle.mps_model.proofs.OnLines.FaultRuleLaws.{last_rule}
 use Rattle.mps_model.proofs.OnTables.SumRangeLaws.{sum_fits_decides}
 use Rattle.mps_model.proofs.OnTables.RowTableLaws.{free_is_not_sided}

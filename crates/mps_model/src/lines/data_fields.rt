@@ -1,6 +1,6 @@
 //! The fields of a data line, cut once.
 ghost use Rattle.std.specs.Prelude.{◌≡◌, ◌≤◌, length, is_some, IfSome, IsTrue, option_map, bytes_eq, codes};
-ghost use Rattle.mps_fields.specs.Lines.{is_data_line};
+ghost use Rattle.mps_fields.specs.Lines.{is_data_line, most_bytes};
 ghost use Rattle.mps_fields.specs.FixedFields.{is_in_columns};
 ghost use Rattle.mps_fields.specs.LineViews.{line_view};
 ghost use Rattle.mps_model.specs.SixFields.{fixed_texts, places as places_at, kind_text, mark_text};
@@ -59,7 +59,7 @@ fn fixed_places<'a>(line: &TextLine<'a>) -> Option<SixFields<'a>>
 }
 
 fn cut_line<'a>(layout: Layout, line: &TextLine<'a>) -> Option<Cut<'a>>
-    requires { length line.now.bytes.now ≤ 16777216 }
+    requires { length line.now.bytes.now ≤ most_bytes }
     ensures columns { IsTrue (is_data_line line.now.bytes.now) → is_some result ≡ keeps_columns layout line.now.bytes.now }
     ensures cut { IfSome result (IsCutOf layout (line_view line.now)) }
 {
@@ -72,7 +72,7 @@ fn cut_line<'a>(layout: Layout, line: &TextLine<'a>) -> Option<Cut<'a>>
 impl<'a> DataFields<'a> {
     /// The fields of a data line, or `None` where it is out of its columns.
     pub(crate) fn cut(layout: Layout, line: &TextLine<'a>) -> Option<DataFields<'a>>
-        requires { length line.now.bytes.now ≤ 16777216 }
+        requires { length line.now.bytes.now ≤ most_bytes }
         ensures columns { IsTrue (is_data_line line.now.bytes.now) → is_some result ≡ keeps_columns layout line.now.bytes.now }
         ensures cuts { IfSome result (Cuts layout (line_view line.now)) }
     {

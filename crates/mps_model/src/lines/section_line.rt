@@ -3,6 +3,7 @@ ghost use Rattle.std.specs.Prelude.{◌≡◌, ◌≤◌, length, option_map, If
 ghost use Rattle.mps_fields.specs.LineViews.{line_view};
 ghost use Rattle.mps_model.specs.Sections.{section_at};
 ghost use Rattle.mps_model.specs.LineFaults.{has_more_fields as more_fields};
+ghost use Rattle.mps_fields.specs.Lines.{most_bytes};
 
 use crate::lines::line_kind::is_section_line;
 use crate::lines::section::Section;
@@ -17,7 +18,7 @@ pub(crate) struct SectionLine {
 
 /// What a line says that begins a section; none for a data line, and for another word.
 pub(crate) fn section_line(line: &TextLine) -> Option<SectionLine>
-    requires { length line.now.bytes.now ≤ 16777216 }
+    requires { length line.now.bytes.now ≤ most_bytes }
     ensures section { option_map (λ said. said.section) result ≡ section_at (line_view line.now) }
     ensures more { IfSome result (λ said. said.has_more_fields ≡ more_fields (line_view line.now)) }
 {

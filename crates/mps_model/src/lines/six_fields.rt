@@ -1,6 +1,6 @@
 //! The six fields of a data line by their places.
-ghost use Rattle.std.specs.Prelude.{◌≡◌, option_map};
-ghost use Rattle.mps_model.specs.SixFields.{row_places as row_rule, pair_places as pair_rule, column_places as column_rule, set_places as set_rule, value_places as value_rule, bare_places as bare_rule, marker_places as marker_rule};
+ghost use Rattle.std.specs.Prelude.{◌≡◌, option_map, Some, None};
+ghost use Rattle.mps_model.specs.SixFields.{six, row_places as row_rule, pair_places as pair_rule, column_places as column_rule, set_places as set_rule, value_places as value_rule, bare_places as bare_rule, marker_places as marker_rule};
 ghost use Rattle.mps_model.specs.SixFieldViews.{text_of, texts_of, places_view, rule_of};
 
 use mps_fields::Field;
@@ -94,23 +94,31 @@ fn set_places<'a>(fields: &[Field<'a>]) -> Option<SixFields<'a>>
     }
 }
 
+fn bound_places<'a>(
+    kind: &'a [u8],
+    set: Option<&'a [u8]>,
+    column: &'a [u8],
+    value: Option<&'a [u8]>,
+) -> Option<SixFields<'a>>
+    ensures { places_view result ≡ six (Some kind.now) (option_map text_of set.entry) (Some column.now) (option_map text_of value.entry) None None }
+{
+    Some(SixFields {
+        first: Some(kind),
+        second: set,
+        third: Some(column),
+        fourth: value,
+        ..SixFields::NONE
+    })
+}
+
 fn value_places<'a>(fields: &[Field<'a>]) -> Option<SixFields<'a>>
     ensures { places_view result ≡ value_rule (texts_of fields.now) }
 {
     match fields {
-        [kind, column, value] => Some(SixFields {
-            first: Some(kind.text),
-            third: Some(column.text),
-            fourth: Some(value.text),
-            ..SixFields::NONE
-        }),
-        [kind, set, column, value] => Some(SixFields {
-            first: Some(kind.text),
-            second: Some(set.text),
-            third: Some(column.text),
-            fourth: Some(value.text),
-            ..SixFields::NONE
-        }),
+        [kind, column, value] => bound_places(kind.text, None, column.text, Some(value.text)),
+        [kind, set, column, value] => {
+            bound_places(kind.text, Some(set.text), column.text, Some(value.text))
+        }
         _ => None,
     }
 }
@@ -119,24 +127,11 @@ fn bare_places<'a>(fields: &[Field<'a>]) -> Option<SixFields<'a>>
     ensures { places_view result ≡ bare_rule (texts_of fields.now) }
 {
     match fields {
-        [kind, column] => Some(SixFields {
-            first: Some(kind.text),
-            third: Some(column.text),
-            ..SixFields::NONE
-        }),
-        [kind, set, column] => Some(SixFields {
-            first: Some(kind.text),
-            second: Some(set.text),
-            third: Some(column.text),
-            ..SixFields::NONE
-        }),
-        [kind, set, column, value] => Some(SixFields {
-            first: Some(kind.text),
-            second: Some(set.text),
-            third: Some(column.text),
-            fourth: Some(value.text),
-            ..SixFields::NONE
-        }),
+        [kind, column] => bound_places(kind.text, None, column.text, None),
+        [kind, set, column] => bound_places(kind.text, Some(set.text), column.text, None),
+        [kind, set, column, value] => {
+            bound_places(kind.text, Some(set.text), column.text, Some(value.text))
+        }
         _ => None,
     }
 }
