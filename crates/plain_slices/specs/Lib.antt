@@ -3,3 +3,4 @@ pub mod Ends
 pub mod Items
 pub mod Shut
 pub mod Nodes
+pub mod Sides

@@ -3,6 +3,8 @@
 
 mod ends;
 mod search;
+mod side;
+mod items;
 mod node;
 mod single;
 #[cfg(test)]
