@@ -6,3 +6,5 @@ pub mod NumberLaws
 pub mod NodeSteps
 pub mod BitLaws
 pub mod BalanceLaws
+pub mod SideLaws
+pub mod RefuteLaws

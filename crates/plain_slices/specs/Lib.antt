@@ -4,3 +4,4 @@ pub mod Items
 pub mod Shut
 pub mod Nodes
 pub mod Sides
+pub mod NodeViews

@@ -39,7 +39,7 @@ pub(crate) fn put_bound(items: &mut Vec<Use>, source: Source, factor: i128) -> R
 }
 
 /// Puts an item in at its place. No other has its number.
-fn put(items: &mut Vec<Use>, item: Use) -> Result<(), NoMemory>
+pub(crate) fn put(items: &mut Vec<Use>, item: Use) -> Result<(), NoMemory>
     requires rising { IsStrictlyIncreasing (numbers_of items.old.items) }
     requires apart { All (λ other. other.index ≢ item.index) items.old.items }
     ensures put { OnOk result (IsPutIn item items.old.items items.new.items) }

@@ -5,6 +5,7 @@ mod ends;
 mod search;
 mod side;
 mod items;
+mod lines;
 mod node;
 mod single;
 #[cfg(test)]
