@@ -8,3 +8,5 @@ pub mod BitLaws
 pub mod BalanceLaws
 pub mod SideLaws
 pub mod RefuteLaws
+pub mod ShutLaws
+pub mod HasSideLaws

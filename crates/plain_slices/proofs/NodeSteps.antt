@@ -6,7 +6,7 @@ use Rattle.std.proofs.lemmas.List.FromFn.{length-map-range_with_len, get_or-map-
 use Rattle.std.proofs.lemmas.List.{get_or-set_same, get_or-set_other, get_or_append_left, get_or_push, length_push, length-set, take_more}
 use Rattle.std.proofs.lemmas.List.Elements.{All-append, All-cons, All-nil, All-pop}
 use Rattle.std.proofs.lemmas.List.Quantifiers.{Any-push}
-use Rattle.std.proofs.lemmas.Bool.{cond_both, cases_lt}
+use Rattle.std.proofs.lemmas.Bool.{cond_both, cases_lt, false≢true}
 use Rattle.std.proofs.lemmas.Slice.Zip.{AllZip-long}
 use Rattle.exact_math.specs.Ring.{integers}
 use Rattle.exact_math.specs.IntegerRing.{linear}
@@ -98,6 +98,7 @@ IsNarrowed-pass rows path done slice bounds sources narrowed none = record {
     small_high = t.small_high;
     fixed = ((λ is. fixed-more (length rows.box) done slice column (t.fixed.0 is)), (λ is. ⊎_elim (λ (before : IsFixedBy (length rows.box) done column). t.fixed.1 before) (λ (here : IsColumn (length rows.box) column slice.form). absurd (none column h here)) (fixed-push (length rows.box) done slice column is)));
     one_value = t.one_value;
+    as_box = t.as_box;
   };
 }
 
@@ -114,6 +115,7 @@ tight-fixed rows path done slice column b s value above below t is small names_a
   one_value = λ _. cond_both (int_lt b.low value) value b.low (λ low. (bounds_fixed b value).high ≤ℤ low)
     (λ e. cond_both (int_lt value b.high) value b.high (λ high. high ≤ℤ value) (λ f. omega linear) (λ f. omega linear))
     (λ e. cond_both (int_lt value b.high) value b.high (λ high. high ≤ℤ b.low) (λ f. omega linear) (λ f. omega linear));
+  as_box = λ e. absurd (false≢true (sym e));
 }
 
 -- the bounds of the others
@@ -127,6 +129,7 @@ tight-kept rows path done slice column other b s t h is differ = record {
   small_high = t.small_high;
   fixed = ((λ f. fixed-more (length rows.box) done slice other (t.fixed.0 f)), (λ f. ⊎_elim (λ (before : IsFixedBy (length rows.box) done other). t.fixed.1 before) (λ (here : IsColumn (length rows.box) other slice.form). absurd (column-unique (length rows.box) column other slice.form h is here differ)) (fixed-push (length rows.box) done slice other f)));
   one_value = t.one_value;
+  as_box = t.as_box;
 }
 
 -- the value of the slice's form says what the column's value is
@@ -250,5 +253,6 @@ IsNarrowed-box rows path bounds sources limits is_bounds is_sources = rw (is_bou
       small_high = small.1;
       fixed = ((λ is. search rules), (λ (fixed : IsFixedBy (length rows.box) [] column). absurd (omega (arith, fixed.2))));
       one_value = λ is. search rules;
+      as_box = λ e. refl;
     });
 })

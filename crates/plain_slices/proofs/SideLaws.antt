@@ -1,6 +1,9 @@
 -- The forms and the inequalities of the two sides.
-use Rattle.std.proofs.Common.{◌≡◌, ℕ, ◌+◌, ◌*◌, ◌^◌, ◌<◌, ◌≤◌, List, [], ◌∷◌, length, get_or, map, ℤ, pos, negsuc, neg_ℤ, ◌+ℤ◌, ◌*ℤ◌, ◌≤ℤ◌, ◌<ℤ◌, nat_abs, refl, sym, ap, ap₂, ◌∙◌, arith, FitsSigned, to_z, of_z}
-use Rattle.std.specs.Prelude.{int_lt}
+use Rattle.std.proofs.Common.{◌≡◌, ℕ, ◌+◌, ◌*◌, ◌^◌, ◌<◌, ◌≤◌, List, [], ◌∷◌, length, get_or, map, ℤ, pos, negsuc, neg_ℤ, ◌+ℤ◌, ◌*ℤ◌, ◌≤ℤ◌, ◌<ℤ◌, nat_abs, refl, sym, ap, ap₂, ◌∙◌, arith, mul-le-mul_left, ◌-ℤ◌, FitsSigned, to_z, of_z}
+use Rattle.std.specs.Prelude.{int_lt, Option, Some, None}
+use Rattle.std.specs.Option.{IsSomeAnd}
+use Rattle.std.specs.List.{sum_by}
+use Rattle.std.proofs.lemmas.List.Sums.{sum_by-cons}
 use Rattle.std.specs.Int.{w128}
 use Rattle.std.proofs.lemmas.Int.{to_z-of_z}
 use Rattle.std.proofs.lemmas.Bool.{cond_both}
@@ -12,9 +15,11 @@ use Rattle.whole_rows.specs.declared.ends.End.TheVariants.{Least, Greatest}
 use Rattle.whole_rows.specs.WholeRows.{reach, span}
 use Rattle.whole_rows.specs.Ends.{value_at, sum_at}
 use Rattle.farkas_rows.specs.NodeLaws.{length-negate}
+use Rattle.farkas_rows.specs.Refutes.{inequality_weight}
+use Rattle.proof_tree.specs.Trees.{IsOfSize}
 use Rattle.plain_slices.specs.declared.side.Side.{Side}
 use Rattle.plain_slices.specs.declared.side.Side.TheVariants.{Upper, Lower}
-use Rattle.plain_slices.specs.Sides.{side_factor, side_form}
+use Rattle.plain_slices.specs.Sides.{side_factor, side_form, IsOutOfReach}
 use Rattle.plain_slices.proofs.UnitLaws.{negate-at}
 use Rattle.plain_slices.proofs.BalanceLaws.{factor_size}
 
@@ -59,3 +64,23 @@ code_factor side form k result fits result_fits e = to_z-of_z w128 result result
 -- its size
 pub code_factor-size : (side : Side) (form : List ℤ) (bounds : List Bounds) (k : ℕ) → length form ≡ length bounds → k < length form → span (side_form side form) bounds ≤ 2 ^ 96 → nat_abs (get_or form k (pos 0)) ≤ 2 ^ 96
 code_factor-size side form bounds k e h light = omega (arith, span-side_form side form bounds, factor_size form bounds k e h)
+
+-- a lower side above the greatest sum is out of reach
+pub lower-out : (form : List ℤ) (low high : Option ℤ) (bounds : List Bounds) → IsSomeAnd low (λ side. sum_at Greatest form bounds <ℤ side) → IsOutOfReach Lower form low high bounds
+lower-out form None high bounds h = h
+lower-out form (Some side) high bounds h = omega (linear, sum_at-turned form bounds, h)
+
+-- the sizes of a form's factors come to no more than its span
+pub sizes_below_span : (form : List ℤ) (bounds : List Bounds) → length form ≡ length bounds → sum_by nat_abs form ≤ span form bounds
+sizes_below_span [] bounds e = omega arith
+sizes_below_span (a ∷ form) [] e = absurd (omega arith)
+sizes_below_span (a ∷ form) (b ∷ bounds) e =
+    let one : 1 ≤ reach b = omega arith in
+    omega (arith, sum_by-cons nat_abs a form, mul-le-mul_left (nat_abs a) one, sizes_below_span form bounds (omega arith))
+
+-- so an inequality with a limit that is not large has no large weight
+pub weight_small : (form : List ℤ) (bounds : List Bounds) (limit : ℤ) → length form ≡ length bounds → span form bounds ≤ 2 ^ 96 → nat_abs limit ≤ 2 ^ 99 → inequality_weight (record { factors = form; limit = limit }) ≤ 2 ^ 100
+weight_small form bounds limit e light small = omega (arith, sizes_below_span form bounds e)
+
+pub cut_size : (value : ℤ) → IsOfSize (2 ^ 97) value → nat_abs (value -ℤ pos 1) ≤ 2 ^ 99
+cut_size value h = omega (linear, h.0, h.1)

@@ -1,5 +1,5 @@
 -- What the items of a line come to, by the inequality that each number names.
-use Rattle.std.specs.Prelude.{◌≡◌, ℕ, suc, zero, ◌+◌, ◌*◌, ◌^◌, ◌≤◌, ℤ, pos, neg_ℤ, ◌+ℤ◌, ◌-ℤ◌, ◌*ℤ◌, ◌≤ℤ◌, int_lt, List, [], ◌∷◌, length, drop, map, All, Option, None, IsSome, unwrap_or, if◌then◌else◌, slice_index_or}
+use Rattle.std.specs.Prelude.{◌≡◌, ℕ, suc, zero, ◌+◌, ◌*◌, ◌^◌, ◌≤◌, ℤ, pos, neg_ℤ, ◌+ℤ◌, ◌-ℤ◌, ◌*ℤ◌, ◌≤ℤ◌, ◌<ℤ◌, int_lt, List, [], ◌∷◌, length, drop, map, All, Option, None, Some, IsSome, unwrap_or, if◌then◌else◌, slice_index_or}
 use Rattle.std.specs.List.{insert}
 use Rattle.std.specs.List.Sorted.{IsStrictlyIncreasing}
 use Rattle.exact_math.specs.Ring.{integers}
@@ -71,3 +71,9 @@ pub record IsBalanced (rows : WholeRows) (path : List Slice) (bounds : List Boun
   pub left : left_of (named_by rows path None) (length rows.box) new ≡ less count (left_of (named_by rows path None) (length rows.box) old) form
   pub limit : limit_of (named_by rows path None) new +ℤ sum_at Least form bounds ≡ limit_of (named_by rows path None) old +ℤ sum_at Least (drop count form) (drop count bounds)
   pub weight : (weight_of (named_by rows path None) new +ℤ pos (2 * span (drop count form) (drop count bounds))) ≤ℤ (weight_of (named_by rows path None) old +ℤ pos (2 * span form bounds))
+
+-- the inequality of this number has the form as its left side, no values within the bounds meet it, and its weight is not large
+pub record IsUnmet (rows : WholeRows) (path : List Slice) (bounds : List Bounds) (number : ℕ) (form : List ℤ) (limit : ℤ) : Type 0 where
+  pub names : inequality_at rows path None number ≡ Some (record { factors = form; limit = limit })
+  pub beyond : limit <ℤ sum_at Least form bounds
+  pub light : inequality_weight (record { factors = form; limit = limit }) ≤ 2 ^ 100

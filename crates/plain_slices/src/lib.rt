@@ -2,6 +2,7 @@
 #![tactic(auto)]
 
 mod ends;
+mod refute;
 mod search;
 mod side;
 mod items;
