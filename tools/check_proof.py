@@ -424,9 +424,9 @@ class Judge:
         return int(word)
 
     def items(self, words):
-        """Splits items at their colons, before any number is looked at."""
+        """Splits items at their colons, before any number is looked at. There is at least one."""
         parts = [word.split(b":") for word in words]
-        self.need(all(len(part) == 2 and part[0] and part[1] for part in parts), "Record")
+        self.need(parts and all(len(part) == 2 and part[0] and part[1] for part in parts), "Record")
         return parts
 
     def rising(self, numbers):
@@ -453,7 +453,7 @@ class Judge:
     def refute_by(self, words, end=None):
         items = self.items(words)
         cut = None
-        if items and items[0][0][:1] == b"Z" and len(items[0][0]) > 1:
+        if items[0][0][:1] == b"Z" and len(items[0][0]) > 1:
             cut = (self.number(items[0][0][1:], -2**97, 2**97), self.number(items[0][1], 1, HEAVIEST_LINE))
             items = items[1:]
         items = [(self.number(i, 0, len(self.given) + 2 * len(self.path)), self.number(m, 1, HEAVIEST_LINE))
