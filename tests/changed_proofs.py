@@ -3,7 +3,8 @@
 
 Makes random small models and proof texts, changes the texts at random C times in all, and looks whether
 tools/check_proof.py accepts anything false: what is true is found by trying all points, on the numbers of the model as
-they were drawn. With --against each changed text is also given to `PROGRAM check`, which must say the same."""
+they were drawn. With --against each text is also given to `PROGRAM check`, which must say the same. The certificate
+that tools/to_vipr.py makes of each proof must be verified by read_vipr.py."""
 
 import argparse
 import collections
@@ -18,7 +19,9 @@ from pathlib import Path
 
 sys.path.insert(0, str(Path(__file__).resolve().parent))
 import make_proof as maker
+import read_vipr
 cp = maker.cp
+import to_vipr
 
 
 class Drawn:
@@ -218,7 +221,8 @@ def main():
         drawn = Drawn(rng)
         points = list(drawn.points())
         best = min(points, key=drawn.value, default=None)
-        rows = cp.integer_rows(cp.read_model(drawn.text, drawn.fixed, None))
+        model = cp.read_model(drawn.text, drawn.fixed, None)
+        rows = cp.integer_rows(model)
 
         def is_true(claim):
             if claim == "INFEASIBLE":
@@ -248,6 +252,14 @@ def main():
         if text is None:
             continue
         judge(text, may_fail=False)
+        certificate = "\n".join(line.decode() for line in to_vipr.certificate(model, lambda: BytesIO(text.encode())))
+        try:
+            verified = read_vipr.verify(certificate)
+        except read_vipr.Wrong as fault:
+            verified = fault
+        value = best and drawn.value(best) + Fraction(drawn.constant or 0)
+        if verified != (f"range {value} {value}" if best else "infeas"):
+            wrong.append((f"the certificate: {verified}", drawn.text, text.encode(), certificate))
         whole += 1
         longest = max(longest, text.count("\n"))
         for other in [None, *rng.sample(points, min(2, len(points)))]:
@@ -261,7 +273,7 @@ def main():
             if other != text:
                 said[judge(other, may_fail=True)] += 1
                 changes += 1
-    print(f"changed proofs: {whole} accepted, the longest of {longest} lines; {forged} of false claims; of {changes} changes "
+    print(f"changed proofs: {whole} accepted and written as certificates, the longest of {longest} lines; {forged} of false claims; of {changes} changes "
           + ", ".join(f"{k} {v}" for k, v in said.most_common()) + f"; {len(wrong)} wrong")
     for what, model, proof, report in wrong[:3]:
         print(what, model.decode(), proof.decode(), report, sep="\n")

@@ -1,8 +1,8 @@
 #!/usr/bin/env python3
-"""Makes a proof text for a small model by trying: make_proof.py [--fixed] [--upper U] MODEL > PROOF
+"""Makes a proof text for a small model by trying: make_proof.py [--plain] [--fixed] [--upper U] MODEL > PROOF
 
-Each node is closed by a line that the simplex method finds, or else split on the small form with the fewest values.
-Slow, and made for tests alone: its texts are judged by tools/check_proof.py, so nothing rests on it."""
+Each node is closed by a line that the simplex method finds, or else split on the small form with the fewest values, or
+with --plain on the next column, under lines of one row. Slow, and made for tests alone: its texts are judged by tools/check_proof.py, so nothing rests on it."""
 
 import itertools
 import sys
@@ -144,11 +144,13 @@ def small_forms(maker, path):
 
 
 def main():
-    fixed, upper, model, _ = cp.command([*sys.argv[1:], "PROOF"])
-    rows = cp.load(fixed, upper, model)
-    maker = Maker(rows, small_forms if len(rows.columns) <= 3 else plain_forms)
+    plain = "--plain" in sys.argv
+    fixed, upper, model, _ = cp.command([word for word in sys.argv[1:] if word != "--plain"] + ["PROOF"])
+    rows = cp.integer_rows(cp.load(fixed, upper, model))
+    maker = Maker(rows, plain_forms if plain or len(rows.columns) > 3 else small_forms)
     while (better := maker.point()) is not None:
         maker.set_claim(better)
+    maker.weak = plain
     for line in maker.text():
         print(line)
 

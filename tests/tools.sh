@@ -31,9 +31,24 @@ for model in examples/*.mps; do
     said=$(python3 tools/check_proof.py "${options[@]}" "$model" "$proof") || fail "$model: $said"
     [ "$said" = "ACCEPTED $(head -n 2 "${model%.mps}.report" | grep -v '^POINT\|^NODES')" ] ||
         fail "$model has another report: $said"
+    python3 tools/draw_proof.py "${options[@]}" "$model" "$proof" >"$work/tree.svg" &&
+        python3 -c 'import sys, xml.dom.minidom; xml.dom.minidom.parse(sys.argv[1])' "$work/tree.svg" ||
+        fail "$model: no picture"
+    python3 tools/to_vipr.py "${options[@]}" "$model" "$proof" >"$work/vipr" &&
+        python3 tests/read_vipr.py <"$work/vipr" >"$work/said" || fail "$model: no certificate"
     if [ -n "$has_check" ] && [ "$("$program" check "${options[@]}" "$model" "$proof")" != "$said" ]; then
         fail "$model: the program says otherwise"
     fi
+done
+
+# Certificates that prove nothing: a bound that is too good, no split, another multiplier, an end that is missing.
+python3 tests/make_proof.py examples/boxes_43.mps >"$work/proof"
+python3 tools/to_vipr.py examples/boxes_43.mps "$work/proof" >"$work/vipr"
+for change in 's/^\(step7 L\) -1/\1 -2/' 's/^\(step14 .*\) 20 /\1 19 /' 's/DER 29/DER 28/; $d' \
+    's/uns 14 13 16 15/uns 14 13 14 13/' 's/^row0 E 43/row0 E 44/' 's/RTP infeas/RTP range 1 1/'; do
+    sed "$change" "$work/vipr" >"$work/changed"
+    cmp -s "$work/vipr" "$work/changed" && fail "$change changes nothing"
+    python3 tests/read_vipr.py <"$work/changed" >"$work/said" && fail "a certificate is verified with $change"
 done
 
 python3 tests/changed_proofs.py ${has_check:+--against "$program"} || fail "changed proofs"

@@ -43,9 +43,7 @@ class Stop(Exception):
         self.report, self.code = report, code
 
 
-# ---------------------------------------------------------------------------------------------------------------------
-# What a model text means
-# ---------------------------------------------------------------------------------------------------------------------
+# ---- What a model text means ----------------------------------------------------------------------------------------
 
 class Fault(Exception):
     """The kind of a line's fault."""
@@ -280,9 +278,7 @@ def read_model(text, fixed, upper):
     raise Stop(b"TEXT NoEnd %d" % place, 4)
 
 
-# ---------------------------------------------------------------------------------------------------------------------
-# The integer rows of a model
-# ---------------------------------------------------------------------------------------------------------------------
+# ---- The integer rows of a model ------------------------------------------------------------------------------------
 
 class Rows:
     """The integer rows of a model. Factors are tables from columns, counted from 0, to whole numbers other than 0."""
@@ -361,9 +357,7 @@ def integer_rows(model):
     return made
 
 
-# ---------------------------------------------------------------------------------------------------------------------
-# The judgement of a proof text
-# ---------------------------------------------------------------------------------------------------------------------
+# ---- The judgement of a proof text ----------------------------------------------------------------------------------
 
 class Leaf:
     """A node without points: its line."""
@@ -531,9 +525,7 @@ class Judge:
         self.need(not rest, "Tail")
 
 
-# ---------------------------------------------------------------------------------------------------------------------
-# The run
-# ---------------------------------------------------------------------------------------------------------------------
+# ---- The run --------------------------------------------------------------------------------------------------------
 
 def command(words):
     """Whether fixed form is read, the bound that is handed in or None, and the names MODEL and PROOF."""
@@ -558,43 +550,49 @@ def command(words):
 
 
 def load(fixed, upper, name):
-    """The integer rows of the model in the file of that name."""
+    """The model in the file of that name."""
     with open(name, "rb") as file:
         text = file.read(LONGEST_TEXT + 1)
     if len(text) > LONGEST_TEXT:
         raise Stop(b"LIMIT MODEL", 5)
-    return integer_rows(read_model(text, fixed, upper))
+    return read_model(text, fixed, upper)
 
 
 def check(words):
     fixed, upper, model, proof = command(words)
-    rows = load(fixed, upper, model)
+    rows = integer_rows(load(fixed, upper, model))
     with open(proof, "rb") as file:
         judge = Judge(rows, file)
         for _ in judge.nodes():
             pass
-    if judge.claim is None:
-        return b"ACCEPTED INFEASIBLE"
-    return b"ACCEPTED OPTIMAL\nVALUE %s" % str(rows.value(judge.claim)).encode()
+    yield b"ACCEPTED INFEASIBLE" if judge.claim is None else b"ACCEPTED OPTIMAL"
+    if judge.claim is not None:
+        yield b"VALUE %s" % str(rows.value(judge.claim)).encode()
 
 
-def run(work):
-    """Does the work on the words of the command, says its report and ends with its code."""
+def say(line, out):
     try:
-        report, code = work(sys.argv[1:]), 0
+        out.write(line + b"\n")
+        out.flush()
+    except OSError:
+        os._exit(7)
+
+
+def run(work, faults):
+    """Says the lines that the work yields on the words of the command, and ends with the code."""
+    try:
+        for line in work(sys.argv[1:]):
+            say(line, sys.stdout.buffer)
+        sys.exit(0)
     except Stop as stop:
         report, code = stop.report, stop.code
     except OSError:
         report, code = b"READFAULT", 6
     except MemoryError:
         report, code = b"NOMEMORY", 8
-    try:
-        sys.stdout.buffer.write(report + b"\n")
-        sys.stdout.buffer.flush()
-    except OSError:
-        code = 7
+    say(report, faults.buffer)
     sys.exit(code)
 
 
 if __name__ == "__main__":
-    run(check)
+    run(check, sys.stdout)
