@@ -223,6 +223,8 @@ def main():
         best = min(points, key=drawn.value, default=None)
         model = cp.read_model(drawn.text, drawn.fixed, None)
         rows = cp.integer_rows(model)
+        if drawn.fixed and vars(cp.integer_rows(cp.read_model(drawn.text, False, None))) != vars(rows):
+            wrong.append(("free form is read otherwise", drawn.text, b"", ""))
 
         def is_true(claim):
             if claim == "INFEASIBLE":

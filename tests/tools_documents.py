@@ -1,14 +1,19 @@
 #!/usr/bin/env python3
 """Runs tools/check_proof.py on what docs/FAULTS.md and docs/FORMATS.md say of single texts: each small text for a
-fault, the two model texts and the small proof with each of its changes. The tables are read from the documents."""
+fault, the two model texts, numbers, sides and bounds, and the small proof with each of its changes. The tables are
+read from the documents."""
 
 import re
 import subprocess
 import sys
 import tempfile
+from fractions import Fraction
 from pathlib import Path
 
 TOP = Path(__file__).resolve().parent.parent
+sys.path.insert(0, str(TOP / "tools"))
+import check_proof as cp
+
 CHECKER = TOP / "tools" / "check_proof.py"
 FAULTS = (TOP / "docs" / "FAULTS.md").read_text()
 FORMATS = (TOP / "docs" / "FORMATS.md").read_text()
@@ -115,6 +120,39 @@ def models():
     expect("a row of weight 2^96 + 1", run(side % 2**96, b""), (5, "LIMIT ROW r\n"))
 
 
+def table(head):
+    """The rows of the table in docs/FORMATS.md that has this head."""
+    part = FORMATS[FORMATS.index(head):]
+    return rows_of(part[:part.index("\n\n")])
+
+
+def small_tables():
+    for text, _, _, means in table("| text | M | e | means |"):
+        wanted = Fraction(1, 10**37) if means == "1/10^37" else Fraction(means)
+        expect(text, cp.number(text.strip("`").encode()), wanted)
+
+    start = "ROWS\n N c\n %s r\nCOLUMNS\n M 'MARKER' 'INTORG'\n x c 0\nRHS\n r 5\n%sENDATA\n"
+    for kind, alone, _, three, minus_three in table("| kind | without a range |"):
+        b = {"at most b": (None, 5), "at least b": (5, None), "equal to b": (5, 5)}[alone]
+        for ranges, wanted in (("", b), ("RANGES\n r 3\n", three), ("RANGES\n r -3\n", minus_three)):
+            model = cp.read_model((start % (kind, ranges)).encode(), False, 1)
+            if isinstance(wanted, str):
+                wanted = tuple(map(int, re.findall("[0-9]+", wanted)))
+            expect(f"{kind} {ranges}", model.sides_of(b"r"), wanted)
+
+    start = "ROWS\n N c\nCOLUMNS\n M 'MARKER' 'INTORG'\n x c 0\nBOUNDS\n%sENDATA\n"
+    for lines, lower, upper, upper_9 in table("| lines | from | to |"):
+        text = start % "".join(line + "\n" for line in re.findall("`([^`]*)`", lines))
+        for handed_in, high in ((None, upper), (9, upper_9)):
+            fault = next((side.split()[1] for side in (lower, high) if side.startswith("none: ")), None)
+            try:
+                column = cp.read_model(text.encode(), False, handed_in).columns[b"x"]
+                said = str(column.lower), str(column.upper)
+            except cp.Stop as stop:
+                said = stop.report.decode()
+            expect(f"{lines} {handed_in}", said, f"TEXT {fault} 5" if fault else (lower, high))
+
+
 def small_proof():
     part = FORMATS[FORMATS.index("### A small proof"):FORMATS.index("## Reports")]
     (proof,) = blocks(part)
@@ -181,6 +219,7 @@ def words_and_files():
 
 faults()
 models()
+small_tables()
 small_proof()
 words_and_files()
 print(f"documents: {tried} texts, {wrong} wrong")

@@ -16,12 +16,14 @@ with the exit code that stands beside. The options may also stand behind the nam
 
 This file follows docs/FORMATS.md and docs/FAULTS.md from top to bottom, in three parts that can be read alone: what a
 model text means, the integer rows of a model, and the judgement of a proof text. All arithmetic is exact. What the
-claim rests on is short: `integer_rows`, `Rows.is_point`, and of the class `Judge` the functions `refute` and `nodes`.
+claim rests on is short: `integer_rows`, `Rows.is_point`, and of the class `Judge` the functions `inequality`,
+`refute_by`, `node` and `nodes`. Python 3.9 or a later one is needed, and nothing else.
 """
 
 import os
 import re
 import sys
+from collections import namedtuple
 from fractions import Fraction
 from io import BytesIO
 from math import ceil, floor, gcd, lcm
@@ -29,10 +31,10 @@ from math import ceil, floor, gcd, lcm
 LONGEST_TEXT = 16_777_216   # bytes of a model text
 LONGEST_LINE = 1_024        # bytes of its lines
 MOST = 256                  # rows, and columns
-WIDEST = 2**127 - 1         # the numbers of a model text
-HEAVIEST = 2**96            # columns, rows, the objective and forms
-HEAVIEST_LINE = 2**126      # lines of a proof text
-LONGEST_PROOF_LINE = 98_304  # their bytes
+WIDEST = 2**127 - 1         # numbers of a model text
+HEAVIEST = 2**96            # columns, rows, the objective, and forms
+HEAVIEST_LINE = 2**126      # lines of a proof text, by weight
+LONGEST_PROOF_LINE = 98_304     # and by bytes
 
 
 class Stop(Exception):
@@ -359,38 +361,29 @@ def integer_rows(model):
 
 # ---- The judgement of a proof text ----------------------------------------------------------------------------------
 
-class Leaf:
-    """A node without points: its line."""
-
-    def __init__(self, line):
-        self.line = line
-
-
-class Split:
-    """A node that is split on the values from `low` on, `count` of them, of a form; and the lines of its two ends."""
-
-    def __init__(self, mark, low, count, form, below, above):
-        self.mark, self.low, self.count, self.form = mark, low, count, form
-        self.below, self.above = below, above
-
-
-class Line:
-    """Inequalities with multipliers: pairs, and the value and the multiplier of the cut, or None."""
-
-    def __init__(self, cut, items):
-        self.cut, self.items = cut, items
-
+# A node is a leaf, which has no point by its line, or it is split on `count` values of a form, from `low` on: the line
+# `below` shows that no point has a smaller value, `above` that none has a greater one.
+Leaf = namedtuple("Leaf", "line")
+Split = namedtuple("Split", "mark low count form below above")
+# The cut's value and multiplier, or None; and pairs of an inequality's number and its multiplier.
+Line = namedtuple("Line", "cut items")
 
 SPELLED = re.compile(rb"0|-?[1-9][0-9]*")
 
 
 class Judge:
-    """Judges a proof text as it is read, a line at a time. What it keeps is the path to the node where it reads."""
+    """Judges a proof text as it is read, a line at a time. What it keeps is the path to the node where it reads.
+
+    Why an accepted claim is true: take a point better than the claimed one, or any point under INFEASIBLE. It lies in
+    the root, and meets the rows, the bounds and every cut, since their values are at least that of the claimed point.
+    In a split its form has a whole value. Were that below `low` or above the last slice, the point would meet all
+    inequalities of the line of that end; so it lies in one of the slices, and on down to a leaf, where it meets all
+    inequalities of the leaf's line. But the sum of these, times multipliers above 0, says 0 <= something negative."""
 
     def __init__(self, rows, file):
         self.rows, self.file = rows, file
         self.place = 0      # the number of the line that is judged
-        self.claim = None   # the claimed point, or None
+        self.claim, self.claim_cut = None, None     # the claimed point and its cut value, or None
         self.path = []      # (form, value) of each slice
         # Each inequality that every node has: (sign, factors, limit) says sign * factors*x <= limit. Or None.
         self.given = []
@@ -445,6 +438,7 @@ class Judge:
         return self.refute_by(words, end)
 
     def refute_by(self, words, end=None):
+        """Judges the items of a line."""
         items = self.items(words)
         cut = None
         if items[0][0][:1] == b"Z" and len(items[0][0]) > 1:
@@ -460,7 +454,7 @@ class Judge:
 
         weight = sum(m * max(1, abs(limit) + sum(map(abs, factors.values()))) for m, (_, factors, limit) in used)
         self.need(weight <= HEAVIEST_LINE, "Weight")
-        self.need(not cut or self.claim is not None and cut[0] >= dot(self.rows.costs, self.claim), "Cut")
+        self.need(not cut or self.claim is not None and cut[0] >= self.claim_cut, "Cut")
         left = {}
         for m, (sign, factors, _) in used:
             for j, f in factors.items():
@@ -499,6 +493,7 @@ class Judge:
             self.need(all(len(v) < 100 for v in numbers), "Point")
             self.claim = [int(v) for v in numbers]
             self.need(self.rows.is_point(self.claim), "Point")
+            self.claim_cut = dot(self.rows.costs, self.claim)
 
     def nodes(self):
         """Judges the text, and hands out its nodes as they come: each split before its slices in rising order."""
