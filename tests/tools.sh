@@ -1,11 +1,12 @@
 #!/usr/bin/env bash
-# Tests the tools of tools/, outside the gate, in less than a minute. Where a proved program stands built that has the
-# command `check`, it must say what tools/check_proof.py says, on each example and on 2,000 changed proof texts.
+# Tests the tools of tools/, outside the gate, in about a minute: tests/tools.sh [PROGRAM]. Where PROGRAM, or else the
+# proved program where it stands built, has the command `check`, it must say what tools/check_proof.py says, on each
+# example and on 2,000 changed proof texts.
 set -u
 cd "$(dirname "$0")/.." || exit 1
 work=$(mktemp -d)
 trap 'rm -rf "$work"' EXIT
-program=crates/slicer/out/slicer
+program=${1-crates/slicer/out/slicer}
 status=0
 
 fail() {
@@ -15,9 +16,9 @@ fail() {
 
 python3 tests/tools_documents.py || fail "the documents' texts"
 
-"$program" check examples/halves.mps examples/halves.mps >"$work/said" 2>"$work/err"
 has_check=
-[ $? = 9 ] && has_check=1
+said=$("$program" check examples/halves.mps examples/halves.report 2>"$work/err")
+[ "$said" = "REJECTED Head 1" ] && has_check=1
 
 # Each example with the proof that stands beside it, or else with one that is made here.
 for model in examples/*.mps; do
@@ -31,9 +32,12 @@ for model in examples/*.mps; do
     said=$(python3 tools/check_proof.py "${options[@]}" "$model" "$proof") || fail "$model: $said"
     [ "$said" = "ACCEPTED $(head -n 2 "${model%.mps}.report" | grep -v '^POINT\|^NODES')" ] ||
         fail "$model has another report: $said"
-    python3 tools/draw_proof.py "${options[@]}" "$model" "$proof" >"$work/tree.svg" &&
-        python3 -c 'import sys, xml.dom.minidom; xml.dom.minidom.parse(sys.argv[1])' "$work/tree.svg" ||
-        fail "$model: no picture"
+    python3 tests/make_proof.py --plain "${options[@]}" "$model" >"$work/plain"
+    for drawn in "$proof" "$work/plain" "$work/plain --depth 0" "$work/plain --depth 1"; do
+        # shellcheck disable=SC2086
+        python3 tools/draw_proof.py "${options[@]}" "$model" $drawn >"$work/tree.svg" &&
+            python3 tests/read_picture.py <"$work/tree.svg" || fail "$model: no good picture of $drawn"
+    done
     python3 tools/to_vipr.py "${options[@]}" "$model" "$proof" >"$work/vipr" &&
         python3 tests/read_vipr.py <"$work/vipr" >"$work/said" || fail "$model: no certificate"
     if [ -n "$has_check" ] && [ "$("$program" check "${options[@]}" "$model" "$proof")" != "$said" ]; then
@@ -53,5 +57,5 @@ done
 
 python3 tests/changed_proofs.py ${has_check:+--against "$program"} || fail "changed proofs"
 
-[ $status = 0 ] && echo "tools: all is as it should be"
+[ $status = 0 ] && echo "tools: all is as it should be${has_check:+, and $program says the same}"
 exit $status
