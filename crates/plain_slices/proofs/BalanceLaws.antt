@@ -25,7 +25,7 @@ use Rattle.plain_slices.proofs.UnitLaws.{unit-same, unit-other, negate-at}
 
 -- ---- what is put in
 
-All-insert : {X : Type 0} (P : X → Type 0) (xs : List X) (i : ℕ) (x : X) → P x → All P xs → All P (insert xs i x)
+pub All-insert : {X : Type 0} (P : X → Type 0) (xs : List X) (i : ℕ) (x : X) → P x → All P xs → All P (insert xs i x)
 All-insert P xs i x here all = All-append P (take i xs) (x ∷ drop i xs) (All-take P i xs all) (All-cons P x (drop i xs) here (All-drop P i xs all))
 
 -- what an item is for a column with this factor: it takes the factor away, at the end of the bounds at which the product is least

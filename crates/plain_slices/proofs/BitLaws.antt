@@ -21,3 +21,6 @@ pub bits-negated : (z : ℤ) → FitsSigned w128 z → FitsSigned w128 (neg_ℤ 
 bits-negated z f g =
     let e : pos 0 -ℤ z ≡ neg_ℤ z = omega linear in
     ap (λ y. to_z w128 (of_z w128 (pos 0 -ℤ y))) (to_z-of_z w128 z f) ∙ ap (λ y. to_z w128 (of_z w128 y)) e ∙ to_z-of_z w128 (neg_ℤ z) g
+
+pub sized_abs : (z : ℤ) → IsOfSize (2 ^ 98) z → nat_abs z ≤ 2 ^ 100
+sized_abs z h = omega (linear, h.0, h.1)

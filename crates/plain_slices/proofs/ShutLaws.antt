@@ -99,9 +99,9 @@ all-any P Q xs all some clash = clash some.1 (subst P some.3 (all some.0 some.1 
 all-both : {X : Type 0} (P Q : X → Type 0) (xs : List X) → All P xs → All Q xs → All (λ x. P x × Q x) xs
 all-both P Q xs p q = λ k d h. (p k d h, q k d h)
 
-cut-open : (rows : WholeRows) (path : List Slice) (best : Option ℤ) (bounds : List Bounds) (sources : List Source) → IsNarrowed rows path path bounds sources → IsOpenBox bounds → length rows.cost ≡ length rows.box → IfSome best (λ value. ReachesSides rows.cost None (Some (value -ℤ pos 1)) bounds) → IsSomeAnd best (λ value. CannotMeet rows path (cut_inequality rows value)) → ⊥
+cut-open : (rows : WholeRows) (path : List Slice) (best : Option ℤ) (bounds : List Bounds) (sources : List Source) → IsNarrowed rows path path bounds sources → IsOpenBox bounds → length rows.cost ≡ length rows.box → IfSome best (λ value. sum_at Least rows.cost bounds <ℤ value) → IsSomeAnd best (λ value. CannotMeet rows path (cut_inequality rows value)) → ⊥
 cut-open rows path None bounds sources narrowed open_box priced reaches h = h
-cut-open rows path (Some value) bounds sources narrowed open_box priced reaches h = can-meet rows path bounds sources rows.cost (value -ℤ pos 1) narrowed open_box priced reaches.1 h
+cut-open rows path (Some value) bounds sources narrowed open_box priced reaches h = can-meet rows path bounds sources rows.cost (value -ℤ pos 1) narrowed open_box priced (omega linear) h
 
 -- A node whose sides can all be reached within the narrowed box is not shut.
 pub meetable-open : (rows : WholeRows) (path : List Slice) (best : Option ℤ) (bounds : List Bounds) (sources : List Source) → IsWithinLimits rows → HasForms (length rows.box) path → IsNarrowed rows path path bounds sources → IsMeetable rows path best bounds → Shut rows path best → ⊥
