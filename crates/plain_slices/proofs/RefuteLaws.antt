@@ -82,8 +82,10 @@ refutes-items rows path end line no_cut gathered vanishes negative light =
       there = gathered.there;
       in_range = All-map (λ times. (pos 1 ≤ℤ times) × (times ≤ℤ pos (2 ^ 126))) (λ (item : Use). item.times) items gathered.in_range;
       light = rw (map_twice (λ (inequality : Inequality). pos (inequality_weight inequality)) (λ (item : Use). named item.index) items) light;
-      vanishes = rw (map_twice (λ (inequality : Inequality). inequality.factors) (λ (item : Use). named item.index) items) vanishes;
-      negative = rw (map_twice (λ (inequality : Inequality). inequality.limit) (λ (item : Use). named item.index) items) negative;
+      combination = record {
+        vanishes = rw (map_twice (λ (inequality : Inequality). inequality.factors) (λ (item : Use). named item.index) items) vanishes;
+        negative = rw (map_twice (λ (inequality : Inequality). inequality.limit) (λ (item : Use). named item.index) items) negative;
+      };
     } in
     subst (λ (cut : Option CutUse). Refutes rows path end (record { cut = cut; items = items })) (sym no_cut) whole
 
@@ -97,8 +99,10 @@ refutes-cut rows path end value line is_cut gathered vanishes negative light =
       there = gathered.there;
       in_range = All-cons (λ times. (pos 1 ≤ℤ times) × (times ≤ℤ pos (2 ^ 126))) (pos 1) (times_of items) (omega linear, omega linear) (All-map (λ times. (pos 1 ≤ℤ times) × (times ≤ℤ pos (2 ^ 126))) (λ (item : Use). item.times) items gathered.in_range);
       light = rw (map_twice (λ (inequality : Inequality). pos (inequality_weight inequality)) (λ (item : Use). named item.index) items) (omega (linear, light, one_mul (pos (inequality_weight (cut_inequality rows value)))));
-      vanishes = rw (map_twice (λ (inequality : Inequality). inequality.factors) (λ (item : Use). named item.index) items) (ap (λ (f : List ℤ). add integers f (left_of named (length rows.box) items)) (scale_once rows.cost) ∙ vanishes);
-      negative = rw (map_twice (λ (inequality : Inequality). inequality.limit) (λ (item : Use). named item.index) items) (omega (linear, negative, one_mul (value -ℤ pos 1)));
+      combination = record {
+        vanishes = rw (map_twice (λ (inequality : Inequality). inequality.factors) (λ (item : Use). named item.index) items) (ap (λ (f : List ℤ). add integers f (left_of named (length rows.box) items)) (scale_once rows.cost) ∙ vanishes);
+        negative = rw (map_twice (λ (inequality : Inequality). inequality.limit) (λ (item : Use). named item.index) items) (omega (linear, negative, one_mul (value -ℤ pos 1)));
+      };
     } in
     subst (λ (cut : Option CutUse). Refutes rows path end (record { cut = cut; items = items })) (sym is_cut) whole
 
