@@ -1,2 +1,7 @@
 pub mod Slices
 pub mod Ends
+pub mod Items
+pub mod Shut
+pub mod Nodes
+pub mod Sides
+pub mod NodeViews
