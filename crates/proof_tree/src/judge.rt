@@ -33,7 +33,7 @@ fn cut_holds(last: Option<i128>, cut: &Option<CutUse>) -> bool
 }
 
 /// Whether the number is small enough for the first value of a split, or for that of a cut.
-fn is_value(number: i128) -> bool
+pub(crate) fn is_value(number: i128) -> bool
     ensures { IsTrue result ↔ IsOfSize (2 ^ 97) number }
 {
     -LARGEST_VALUE <= number && number <= LARGEST_VALUE
@@ -55,7 +55,7 @@ fn closes<'a>(
 }
 
 /// Whether the form is one of a split.
-fn is_split_form(rows: &DenseRows, form: &[i128]) -> bool
+pub(crate) fn is_split_form(rows: &DenseRows, form: &[i128]) -> bool
     ensures { IsTrue result ↔ IsSplitForm rows.now form.now }
 {
     form.len() == rows.columns()
