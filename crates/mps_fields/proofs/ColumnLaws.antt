@@ -2,23 +2,15 @@
 use Rattle.std.proofs.Common.{◌≡◌, ℕ, zero, suc, ◌+◌, ◌-◌, ◌≤◌, cond, List, [], ◌∷◌, length, take, drop, Some, None, refl, sym, ap, subst, ◌∙◌, arith}
 use Rattle.std.specs.Prelude.{IfSome}
 use Rattle.std.specs.List.{list_all, prefix_len, suffix_len}
-use Rattle.std.proofs.lemmas.List.{length-take, length-take-le, length-drop}
+use Rattle.std.proofs.lemmas.List.{length-take, length-take-le, length-drop, take-take, drop-drop}
 use Rattle.std.proofs.lemmas.List.Sums.{prefix_len-le-length}
 use Rattle.mps_fields.specs.FreeFields.{Span}
 use Rattle.mps_fields.specs.FixedFields.{is_space, columns, without_end, field_between, LiesBetween}
-use Rattle.mps_fields.proofs.Booleans.{either}
-use Rattle.mps_fields.proofs.FieldLaws.{drop-add}
-
--- a shorter front of a front
-take-take-le : (n w : ℕ) (xs : List ℕ) → n ≤ w → take n (take w xs) ≡ take n xs
-take-take-le zero w xs h = refl
-take-take-le (suc n) zero xs h = absurd (omega arith)
-take-take-le (suc n) (suc w) [] h = refl
-take-take-le (suc n) (suc w) (x ∷ xs) h = ap (λ t. x ∷ t) (take-take-le n w xs (omega arith))
+use Rattle.mps_fields.specs.BooleanLaws.{either}
 
 -- a part of the front is a part of the whole
 part_of_front : (n k w : ℕ) (xs : List ℕ) → n + k ≤ w → take n (drop k (take w xs)) ≡ take n (drop k xs)
-part_of_front n zero w xs h = take-take-le n w xs (omega arith)
+part_of_front n zero w xs h = take-take n w xs (omega arith)
 part_of_front n (suc k) zero xs h = absurd (omega arith)
 part_of_front n (suc k) (suc w) [] h = refl
 part_of_front n (suc k) (suc w) (x ∷ xs) h = part_of_front n k w xs (omega arith)
@@ -34,7 +26,7 @@ lies_between first last lead n line ordered some in_columns few =
     let size : length (take n rest) ≡ n = length-take-le n rest few in
     record {
       bytes =
-          ap (λ m. take m (drop (first - 1 + lead) line)) size ∙ ap (take n) (sym (drop-add lead (first - 1) line))
+          ap (λ m. take m (drop (first - 1 + lead) line)) size ∙ ap (take n) (sym (drop-drop lead (first - 1) line))
           ∙ sym (part_of_front n lead w (drop (first - 1) line) (omega arith));
       behind = omega arith;
       within = omega arith;

@@ -1,13 +1,13 @@
 -- The fields that are found are all the runs of the line, each at its place.
 use Rattle.std.proofs.Common.{◌≡◌, ℕ, zero, suc, ◌+◌, ◌-◌, ◌<◌, ◌≤◌, Bool, true, false, not, eqb, List, [], ◌∷◌, ◌++◌, length, take, drop, refl, sym, ap, subst, ◌∙◌, arith}
 use Rattle.std.specs.List.{list_all}
-use Rattle.std.proofs.lemmas.Bool.{eqb-true, lt-ltb}
-use Rattle.std.proofs.lemmas.List.{length-take-le, length-drop, drop_all, nil_from_length, append-nil, take-append-drop}
+use Rattle.std.proofs.lemmas.Bool.{eqb-true, lt-ltb, and_parts, and_from}
+use Rattle.std.proofs.lemmas.List.{length-take-le, length-drop, nil_from_length, append-nil, take-append-drop, drop-drop}
 use Rattle.std.proofs.lemmas.List.Sums.{prefix_len-le-length}
 use Rattle.mps_fields.specs.Lines.{is_blank}
 use Rattle.mps_fields.specs.FreeFields.{fields_from, free_fields, IsNextField, AreFields}
-use Rattle.mps_fields.proofs.Booleans.{either, both_true, true_both, above_zero}
-use Rattle.mps_fields.proofs.ReadingLaws.{front-all}
+use Rattle.mps_fields.specs.BooleanLaws.{either, above_zero}
+use Rattle.mps_fields.specs.FrontLaws.{front-all}
 use Rattle.mps_fields.proofs.RunLaws.{blanks, run_end, run_end-cons, run_end-none, starts_run, run_first, behind_blanks, no_run}
 
 -- a test that does not fail holds
@@ -19,8 +19,8 @@ not_not false h = h
 blanks-all : (bytes : List ℕ) → list_all (λ byte. not (not (is_blank byte))) bytes ≡ true → list_all is_blank bytes ≡ true
 blanks-all [] h = refl
 blanks-all (byte ∷ bytes) h =
-    let both = both_true (not (not (is_blank byte))) (list_all (λ b. not (not (is_blank b))) bytes) h in
-    true_both (is_blank byte) (list_all is_blank bytes) (not_not (is_blank byte) both.0) (blanks-all bytes both.1)
+    let both = and_parts (not (not (is_blank byte))) (list_all (λ b. not (not (is_blank b))) bytes) h in
+    and_from (is_blank byte) (list_all is_blank bytes) (not_not (is_blank byte) both.0) (blanks-all bytes both.1)
 
 -- the bytes in front of a run are blanks
 front_blanks : (bytes : List ℕ) → list_all is_blank (take (blanks bytes) bytes) ≡ true
@@ -35,14 +35,8 @@ run_after : (bytes : List ℕ) → list_all is_blank (take 1 (drop (run_end byte
 run_after [] = refl
 run_after (byte ∷ bytes) =
     either (is_blank byte)
-    (λ t. subst (λ k. list_all is_blank (take 1 (drop k (byte ∷ bytes))) ≡ true) (sym (run_end-none byte bytes t)) (true_both (is_blank byte) true t refl))
+    (λ t. subst (λ k. list_all is_blank (take 1 (drop k (byte ∷ bytes))) ≡ true) (sym (run_end-none byte bytes t)) (and_from (is_blank byte) true t refl))
     (λ t. subst (λ k. list_all is_blank (take 1 (drop k (byte ∷ bytes))) ≡ true) (sym (run_end-cons byte bytes t)) (run_after bytes))
-
--- two parts passed over, one after another
-pub drop-add : (k n : ℕ) (xs : List ℕ) → drop k (drop n xs) ≡ drop (n + k) xs
-drop-add k zero xs = let same : k ≡ 0 + k = omega arith in ap (λ m. drop m xs) same
-drop-add k (suc n) [] = drop_all k [] (omega arith) ∙ sym (drop_all (suc n + k) [] (omega arith))
-drop-add k (suc n) (x ∷ xs) = let same : suc (n + k) ≡ suc n + k = omega arith in drop-add k n xs ∙ ap (λ m. drop m (x ∷ xs)) same
 
 -- where no run is left, all are blanks
 all_blank : (bytes : List ℕ) → length (drop (blanks bytes) bytes) ≡ 0 → list_all is_blank bytes ≡ true
@@ -60,9 +54,9 @@ next_field place at len line rest at_is rest_is len_is some =
       behind = omega arith;
       before = ap (λ n. list_all is_blank (take n (drop place line))) gap ∙ front_blanks (drop place line);
       bytes = ap (λ n. take n (drop at line)) size ∙ ap (take len) (sym rest_is);
-      run = true_both _ _ (lt-ltb 0 (length (take len rest)) (omega arith)) (ap (λ n. list_all (λ byte. not (is_blank byte)) (take n rest)) len_is ∙ run_all rest);
+      run = and_from _ _ (lt-ltb 0 (length (take len rest)) (omega arith)) (ap (λ n. list_all (λ byte. not (is_blank byte)) (take n rest)) len_is ∙ run_all rest);
       after =
-          ap (λ n. list_all is_blank (take 1 (drop (at + n) line))) (size ∙ len_is) ∙ ap (λ r. list_all is_blank (take 1 r)) (sym (drop-add (run_end rest) at line) ∙ ap (drop (run_end rest)) (sym rest_is))
+          ap (λ n. list_all is_blank (take 1 (drop (at + n) line))) (size ∙ len_is) ∙ ap (λ r. list_all is_blank (take 1 r)) (sym (drop-drop (run_end rest) at line) ∙ ap (drop (run_end rest)) (sym rest_is))
           ∙ run_after rest;
     }
 
@@ -84,8 +78,8 @@ more_fields fuel place line fields few some =
     let rest : List ℕ = drop (blanks bytes) bytes in
     let len : ℕ = run_end rest in
     let first = run_first at rest (starts_run bytes) some in
-    let rest_is : rest ≡ drop at line = drop-add (blanks bytes) place line in
-    let left : drop len rest ≡ drop (at + len) line = ap (drop len) rest_is ∙ drop-add len at line in
+    let rest_is : rest ≡ drop at line = drop-drop (blanks bytes) place line in
+    let left : drop len rest ≡ drop (at + len) line = ap (drop len) rest_is ∙ drop-drop len at line in
     let found : fields_from place bytes ≡ (record { at = at; text = take len rest }) ∷ fields_from (at + len) (drop (at + len) line) =
     behind_blanks place bytes ∙ first.0 ∙ ap (λ r. (record { at = at; text = take len rest }) ∷ fields_from (at + len) r) left in
     let within : len ≤ length rest = prefix_len-le-length (λ x. not (is_blank x)) rest in

@@ -1,12 +1,9 @@
-pub mod Booleans
-pub mod ReadingLaws
 pub mod PartLaws
 pub mod ScaleLaws
 pub mod FractionLaws
 pub mod ProductLaws
 pub mod NumberLaws
 pub mod LineLaws
-pub mod SpaceLaws
 pub mod RunLaws
 pub mod FoundLaws
 pub mod KeptLaws

@@ -7,8 +7,8 @@ use Rattle.mps_fields.specs.Decimal.{Decimal, IsNumber, MeansNumber, IsWideNumbe
 use Rattle.mps_fields.specs.Reading.{decimal_of, value_of, number_of}
 use Rattle.mps_fields.specs.Parts.{ArePartsOf, parts_mantissa, parts_power}
 use Rattle.mps_fields.specs.declared.parts.Parts.{Parts}
-use Rattle.mps_fields.proofs.Booleans.{either}
-use Rattle.mps_fields.proofs.ReadingLaws.{spells_found, found_spells}
+use Rattle.mps_fields.specs.BooleanLaws.{either}
+use Rattle.mps_fields.specs.ReadingLaws.{spells_found, found_spells}
 
 -- a number that fits is answered
 value_of-fits : (d : Decimal) → fits d ≡ true → value_of (Some d) ≡ Ok (means_number d)

@@ -1,10 +1,8 @@
 -- The parts that the code cuts from a text are those of the number that it is.
-use Rattle.std.proofs.Common.{◌≡◌, ℕ, suc, ◌+◌, ◌-◌, ◌<◌, ◌≤◌, Bool, true, false, true≢false, cond, ◌&&◌, not, ltb, eqb, List, [], ◌∷◌, ◌++◌, length, take, drop, get_or, Option, Some, None, pos, ◌-ℤ◌, refl, sym, ap, subst, ◌∙◌, arith, sub-one}
-use Rattle.std.specs.Prelude.{position}
-use Rattle.std.specs.List.{list_all, prefix_len, position_or_len}
+use Rattle.std.proofs.Common.{◌≡◌, ℕ, suc, ◌+◌, ◌-◌, ◌<◌, ◌≤◌, true, false, true≢false, cond, eqb, List, [], ◌∷◌, ◌++◌, length, take, drop, get_or, Option, Some, None, pos, ◌-ℤ◌, refl, sym, ap, subst, ◌∙◌, arith, sub-one}
+use Rattle.std.specs.List.{list_all}
 use Rattle.std.proofs.lemmas.List.{nil_from_length, length-append}
-use Rattle.std.proofs.lemmas.List.Sums.{prefix_len-le-length}
-use Rattle.std.proofs.lemmas.Option.{none-some}
+use Rattle.std.proofs.lemmas.List.Folds.{list_all-append}
 use Rattle.std.proofs.Math.Seq.{take-length}
 use Rattle.frac128.specs.Sign.{with_sign}
 use Rattle.mps_fields.specs.Decimal.{Sign, unsigned, plus, minus, signed, Exponent, Decimal, is_digit, is_digits, is_exponent_letter, digits_value, fraction_digits, exponent_value}
@@ -12,28 +10,10 @@ use Rattle.mps_fields.specs.Reading.{sign_of, after_sign, front_digits, after_di
 use Rattle.mps_fields.specs.Parts.{is_minus, IsPowerOf, ArePartsOf}
 use Rattle.mps_fields.specs.declared.parts.Power.{Power}
 use Rattle.mps_fields.specs.declared.parts.Parts.{Parts}
-use Rattle.mps_fields.proofs.Booleans.{either, true_both}
-use Rattle.mps_fields.proofs.ReadingLaws.{front-all}
-
--- a test that is turned twice
-not_not : (b : Bool) → not (not b) ≡ b
-not_not true = refl
-not_not false = refl
-
--- so many bytes pass, the test turned twice or not
-pub prefix_len-not_not : (p : ℕ → Bool) (bytes : List ℕ) → prefix_len (λ x. not (not (p x))) bytes ≡ prefix_len p bytes
-prefix_len-not_not p [] = refl
-prefix_len-not_not p (byte ∷ bytes) =
-    ap (λ b. cond b (1 + prefix_len (λ x. not (not (p x))) bytes) 0) (not_not (p byte)) ∙ ap (λ n. cond (p byte) (1 + n) 0) (prefix_len-not_not p bytes)
-
--- where no byte fails, all pass
-pub all_pass : (p : ℕ → Bool) (bytes : List ℕ) → position (λ x. not (p x)) bytes ≡ None → length bytes ≡ prefix_len p bytes
-all_pass p bytes e =
-    let end : ℕ = position_or_len (λ x. not (p x)) bytes in
-    let at_most : end ≤ length bytes = prefix_len-le-length (λ x. not (not (p x))) bytes in
-    either (ltb end (length bytes))
-    (λ t. absurd (none-some end (sym e ∙ ap (λ c. cond c (Some end) None) t)))
-    (λ t. grind (arith, t, at_most, prefix_len-not_not p bytes))
+use Rattle.std.proofs.lemmas.Bool.{and_from}
+use Rattle.mps_fields.specs.BooleanLaws.{either}
+use Rattle.mps_fields.specs.FrontLaws.{front-all}
+use Rattle.mps_fields.specs.ReadingLaws.{is_digits-all}
 
 -- a text with a byte has digits alone where each byte is a digit
 pub nonempty_digits : (text : List ℕ) → eqb (length text) 0 ≡ false → list_all is_digit text ≡ is_digits text
@@ -64,11 +44,6 @@ no_power x [] negative now short = record {
 }
 no_power x (byte ∷ bytes) negative now short = absurd (omega arith)
 
--- one digit or more, all digits
-digits_all : (text : List ℕ) → is_digits text ≡ true → list_all is_digit text ≡ true
-digits_all [] h = absurd (true≢false (sym h))
-digits_all (byte ∷ bytes) h = h
-
 -- a letter, a sign and digits are an exponent
 exponent_of-cons : (letter : ℕ) (rest : List ℕ) → is_exponent_letter letter ≡ true → is_digits (after_sign rest) ≡ true → exponent_of (letter ∷ rest) ≡ Some (Some (record { letter = letter; sign = sign_of rest; digits = after_sign rest }))
 exponent_of-cons letter rest is_letter digits = rw (is_letter, digits) refl
@@ -79,7 +54,7 @@ power_is x text rest letter e negative now is_letter digits = record {
   exponent = Some (record { letter = letter; sign = sign_of rest; digits = after_sign rest });
   found = ap exponent_of e ∙ exponent_of-cons letter rest is_letter (ap is_digits (sym now) ∙ digits);
   value = ap (λ b. with_sign b (digits_value x.digits.now)) negative ∙ with_sign-minus (sign_of rest) (digits_value x.digits.now) ∙ ap (λ d. signed (sign_of rest) (digits_value d)) now;
-  digits = digits_all x.digits.now digits;
+  digits = is_digits-all x.digits.now digits;
 }
 
 -- ---- the whole text
@@ -122,14 +97,6 @@ no_exponent text whole fraction end cut e =
     let rest = after_digits (after_sign text) in
     ap (decimal_with (sign_of text) (front_digits (after_sign text)) (fraction_of rest)) (sym (ap exponent_of cut.end_is) ∙ e)
 
--- all of two lists
-list_all-join : (p : ℕ → Bool) (xs ys : List ℕ) → list_all p xs ≡ true → list_all p ys ≡ true → list_all p (xs ++ ys) ≡ true
-list_all-join p [] ys a b = b
-list_all-join p (x ∷ xs) ys a b =
-    either (p x)
-    (λ t. true_both (p x) (list_all p (xs ++ ys)) t (list_all-join p xs ys (sym (ap (λ c. c && list_all p xs) t) ∙ a) b))
-    (λ f. absurd (true≢false (sym a ∙ ap (λ c. c && list_all p xs) f)))
-
 -- some digits
 is_digits-from_all : (xs : List ℕ) → 0 < length xs → list_all is_digit xs ≡ true → is_digits xs ≡ true
 is_digits-from_all [] some all = absurd (omega arith)
@@ -157,7 +124,8 @@ module _ (p : Parts) (text end : List ℕ) (negative : p.is_negative ≡ is_minu
   parts_are some =
       let rest = after_digits (after_sign text) in
       let both : p.whole.now ++ p.fraction.now ≡ found.whole ++ fraction_digits found.fraction = ap (λ w. w ++ p.fraction.now) cut.whole_is ∙ ap (λ f. found.whole ++ f) cut.fraction_is in
-      let all : list_all is_digit (found.whole ++ fraction_digits found.fraction) ≡ true = list_all-join is_digit found.whole (fraction_digits found.fraction) (front-all is_digit (after_sign text)) (fraction-all rest) in
+      let all : list_all is_digit (found.whole ++ fraction_digits found.fraction) ≡ true =
+      list_all-append is_digit found.whole (fraction_digits found.fraction) ∙ and_from _ _ (front-all is_digit (after_sign text)) (fraction-all rest) in
       let one : 0 < length (found.whole ++ fraction_digits found.fraction) = omega (arith, length-append p.whole.now p.fraction.now, ap length both) in
       record {
         decimal = found;

@@ -1,13 +1,13 @@
 -- When m * 10^e fits, and what it is, for m and e by sign and size.
-use Rattle.std.proofs.Common.{◌≡◌, ℕ, zero, suc, ◌+◌, ◌-◌, ◌*◌, ◌^◌, ◌<◌, ◌≤◌, Bool, true, false, true≢false, ◌||◌, IsTrue, eqb, ℤ, pos, negsuc, neg_ℤ, ◌*ℤ◌, ◌-ℤ◌, nat_abs, Option, Some, None, SomeIff, refl, sym, ap, subst, ◌∙◌, arith}
-use Rattle.std.proofs.lemmas.Bool.{eqb-true, ltb-true, leb-true, lt-ltb, le-leb}
+use Rattle.std.proofs.Common.{◌≡◌, ℕ, zero, suc, ◌+◌, ◌-◌, ◌*◌, ◌^◌, ◌<◌, ◌≤◌, Bool, true, false, true≢false, IsTrue, eqb, ℤ, pos, negsuc, neg_ℤ, ◌*ℤ◌, ◌-ℤ◌, nat_abs, Option, Some, None, SomeIff, refl, sym, ap, subst, ◌∙◌, arith}
+use Rattle.std.proofs.lemmas.Bool.{or_right, eqb-true, ltb-true, leb-true, lt-ltb, le-leb, and_parts, and_from}
 use Rattle.exact_math.specs.Rational.{ℚ, frac, whole}
 use Rattle.exact_math.specs.IntegerRing.{linear, neg_mul, mul_one, zero_mul}
 use Rattle.exact_math.specs.RationalLaws.{whole-frac, same_frac}
 use Rattle.frac128.specs.Sign.{with_sign}
 use Rattle.mps_fields.proofs.FractionLaws.{nat_abs-with_sign}
 use Rattle.mps_fields.specs.Decimal.{scaled, fits_scaled, fits_product}
-use Rattle.mps_fields.proofs.Booleans.{both_true, true_both, some_of}
+use Rattle.mps_fields.specs.BooleanLaws.{some_of}
 use Rattle.mps_fields.proofs.ScaleLaws.{power_pos, power_large, at_least}
 
 -- the same answer under another name
@@ -16,11 +16,6 @@ some_same (Some x) P Q v w to from e h = (to h.0, h.1 ∙ e)
 some_same None P Q v w to from e h = λ q. h (from q)
 
 -- ---- the tests
-
--- the second of two tests holds
-second_true : (a b : Bool) → b ≡ true → (a || b) ≡ true
-second_true true b h = refl
-second_true false b h = h
 
 -- for a size above 0, only the second test counts
 fits_nonzero : (m e : ℤ) → 0 < nat_abs m → fits_product m e ≡ true → fits_scaled m e ≡ true
@@ -34,7 +29,7 @@ too_large : (m e : ℤ) → (nat_abs m < 2 ^ 127 → ⊥) → fits_scaled m e �
 too_large m (pos k) large h =
     let small : nat_abs m * 10 ^ k < 2 ^ 127 = ltb-true _ _ h in
     large (omega (arith, at_least (nat_abs m) (10 ^ k) 0 (power_pos k), small))
-too_large m (negsuc k) large h = large (ltb-true _ _ (both_true _ _ h).0)
+too_large m (negsuc k) large h = large (ltb-true _ _ (and_parts _ _ h).0)
 
 -- an M that is too large
 pub large_mantissa : (s : Bool) (n : ℕ) (e : ℤ) → (n < 2 ^ 127 → ⊥) → IsTrue (fits_product (with_sign s n) e) → ⊥
@@ -69,10 +64,10 @@ zero_fits r s n e none h =
 -- when M fits with e = -k
 fits_down : (m : ℤ) (k : ℕ) → 0 < nat_abs m → nat_abs m < 2 ^ 127 → (k ≤ 38 → IsTrue (fits_product m (neg_ℤ (pos k)))) × (IsTrue (fits_product m (neg_ℤ (pos k))) → k ≤ 38)
 fits_down m zero some small =
-    (λ _. second_true (eqb (nat_abs m) 0) _ (lt-ltb (nat_abs m * 10 ^ 0) (2 ^ 127) (omega arith)), λ _. omega arith)
+    (λ _. or_right (eqb (nat_abs m) 0) _ (lt-ltb (nat_abs m * 10 ^ 0) (2 ^ 127) (omega arith)), λ _. omega arith)
 fits_down m (suc k) some small = (
-  λ few. second_true (eqb (nat_abs m) 0) _ (true_both _ _ (lt-ltb (nat_abs m) (2 ^ 127) small) (le-leb (suc k) 38 few)),
-  λ h. leb-true (suc k) 38 (both_true _ _ (fits_nonzero m (negsuc k) some h)).1,
+  λ few. or_right (eqb (nat_abs m) 0) _ (and_from _ _ (lt-ltb (nat_abs m) (2 ^ 127) small) (le-leb (suc k) 38 few)),
+  λ h. leb-true (suc k) 38 (and_parts _ _ (fits_nonzero m (negsuc k) some h)).1,
 )
 
 -- M with e = -k is M over a power of ten
@@ -102,7 +97,7 @@ raise r s n k e is some h =
     let m = with_sign s n in
     subst (λ x. SomeIff r (IsTrue (fits_product m x)) (scaled m x)) (sym is)
     (some_same r _ _ _ _
-    (λ small. second_true (eqb (nat_abs m) 0) _ (lt-ltb (nat_abs m * 10 ^ k) (2 ^ 127) (subst (λ x. x * 10 ^ k < 2 ^ 127) (sym size) small)))
+    (λ small. or_right (eqb (nat_abs m) 0) _ (lt-ltb (nat_abs m * 10 ^ k) (2 ^ 127) (subst (λ x. x * 10 ^ k < 2 ^ 127) (sym size) small)))
     (λ t. subst (λ x. x * 10 ^ k < 2 ^ 127) size (ltb-true _ _ (fits_nonzero m (pos k) (subst (λ x. 0 < x) (sym size) some) t)))
     (ap whole (with_sign-times s n (10 ^ k))) h)
 
@@ -112,11 +107,6 @@ raise r s n k e is some h =
 pub negative_power : (t : Bool) (x f : ℕ) → t ≡ true → with_sign t x -ℤ pos f ≡ neg_ℤ (pos (x + f))
 negative_power true x f h = omega linear
 negative_power false x f h = absurd (true≢false (sym h))
-
--- e where there are more places than the exponent makes up for
-pub more_places : (t : Bool) (x f : ℕ) → t ≡ false → x < f → with_sign t x -ℤ pos f ≡ neg_ℤ (pos (f - x))
-more_places true x f h less = absurd (true≢false h)
-more_places false x f h less = omega linear
 
 -- e where there are fewer
 pub fewer_places : (t : Bool) (x f : ℕ) → t ≡ false → f ≤ x → with_sign t x -ℤ pos f ≡ pos (x - f)

@@ -73,7 +73,7 @@ fn line_feed(text: &[u8]) -> Option<usize>
 }
 
 // How many bytes stand before the first line feed.
-#[tactic(auto, using(crate::proofs::LineLaws::place_some, crate::proofs::LineLaws::place_none))]
+#[tactic(auto, using(crate::specs::FrontLaws::place_some, crate::specs::FrontLaws::place_none))]
 fn piece_len(text: &[u8]) -> usize
     ensures len { result ≡ position_or_len (λ byte. byte == 10) text.now }
     ensures within { result ≤ length text.now }

@@ -1,9 +1,9 @@
 -- What the code's tables keep, where a section begins.
 use Rattle.std.proofs.Common.{◌≡◌, Bool, true, false, ◌||◌, List, [], ◌∷◌, ◌++◌, filter_map, Some, sym, ap, subst, ◌∙◌, append_assoc}
 use Rattle.std.specs.List.{list_any}
-use Rattle.std.proofs.lemmas.Bool.{or_parts}
+use Rattle.std.proofs.lemmas.Bool.{or_parts, and_parts}
 use Rattle.std.proofs.lemmas.List.{append-nil}
-use Rattle.mps_fields.proofs.Booleans.{either, both_true}
+use Rattle.mps_fields.specs.BooleanLaws.{either}
 use Rattle.mps_fields.specs.Lines.{Line}
 use Rattle.mps_model.specs.declared.layout.Layout.{Layout}
 use Rattle.mps_model.specs.declared.section.Section.{Section}
@@ -25,10 +25,10 @@ use Rattle.mps_model.proofs.OrderLaws.{came-push, or_true, or_false}
 use Rattle.mps_model.proofs.KeepingLaws.{no_table, no_sides, no_ranges, no_bounds}
 
 ordered_last : (above sections : List Section) (s : Section) → are_in_order above (sections ++ s ∷ []) ≡ true → is_in_order (above ++ sections) s ≡ true
-ordered_last above [] s h = subst (λ l. is_in_order l s ≡ true) (sym (append-nil above)) (both_true (is_in_order above s) true h).0
+ordered_last above [] s h = subst (λ l. is_in_order l s ≡ true) (sym (append-nil above)) (and_parts (is_in_order above s) true h).0
 ordered_last above (t ∷ sections) s h =
     subst (λ l. is_in_order l s ≡ true) (append_assoc above (t ∷ []) sections)
-    (ordered_last (above ++ t ∷ []) sections s (both_true (is_in_order above t) (are_in_order (above ++ t ∷ []) (sections ++ s ∷ [])) h).1)
+    (ordered_last (above ++ t ∷ []) sections s (and_parts (is_in_order above t) (are_in_order (above ++ t ∷ []) (sections ++ s ∷ [])) h).1)
 
 -- a section that comes in order has not come
 new_section : (sections : List Section) (s : Section) → are_in_order [] (sections ++ s ∷ []) ≡ true → list_any (is_same s) sections ≡ false

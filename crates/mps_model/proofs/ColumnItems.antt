@@ -9,7 +9,7 @@ use Rattle.std.proofs.lemmas.List.{append-nil, map-append}
 use Rattle.std.proofs.lemmas.List.Concat.{flat_map-append}
 use Rattle.std.proofs.lemmas.List.Elements.{filter-append, filter_map-append}
 use Rattle.std.proofs.lemmas.List.Folds.{list_any-append}
-use Rattle.mps_fields.proofs.Booleans.{either}
+use Rattle.mps_fields.specs.BooleanLaws.{either}
 use Rattle.exact_math.specs.Rational.{ℚ}
 use Rattle.int_model.specs.declared.model.Item.{Item}
 use Rattle.mps_model.specs.Tables.{Pair, PairLine, ColumnLine, marker, entries}

@@ -2,7 +2,7 @@
 use Rattle.std.proofs.Common.{◌≡◌, ◌&&◌, ℤ, ℕ, List, [], ◌∷◌, Bool, true, false, not, cond, length, Option, Some, None, refl}
 use Rattle.std.specs.Prelude.{filter_map, slice_get, is_some}
 use Rattle.std.specs.List.{list_all, list_any, cons_option}
-use Rattle.mps_fields.proofs.Booleans.{true_both}
+use Rattle.std.proofs.lemmas.Bool.{and_from}
 use Rattle.mps_model.specs.declared.layout.Layout.{Layout}
 use Rattle.mps_model.specs.declared.fault.FaultKind.{FaultKind}
 use Rattle.mps_model.specs.declared.fault.FaultKind.TheVariants as faults
@@ -29,7 +29,7 @@ all_pass : {A B : Type 0} (f : A → Option B) (test : A → Bool) → ((x : A) 
     → (xs : List A) → slice_get (filter_map f xs) 0 ≡ None → list_all test xs ≡ true
 all_pass f test passes [] h = refl
 all_pass f test passes (x ∷ xs) h =
-    true_both (test x) (list_all test xs) (passes x (first_none (f x) (filter_map f xs) h)) (all_pass f test passes xs (rest_none (f x) (filter_map f xs) h))
+    and_from (test x) (list_all test xs) (passes x (first_none (f x) (filter_map f xs) h)) (all_pass f test passes xs (rest_none (f x) (filter_map f xs) h))
 
 under : {A : Type 0} (b : Bool) (o : Option A) (x : A) → cond b o (Some x) ≡ None → o ≡ None
 under true o x h = h

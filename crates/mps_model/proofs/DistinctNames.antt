@@ -7,8 +7,8 @@ use Rattle.std.proofs.lemmas.Map.Keys.{apart_from_distinct}
 use Rattle.std.proofs.lemmas.List.Folds.{list_any_at, list_any_none}
 use Rattle.std.proofs.lemmas.List.Sums.{fails_before_first}
 use Rattle.std.proofs.lemmas.List.Quantifiers.{position-Some}
-use Rattle.mps_fields.proofs.Booleans.{either}
-use Rattle.mps_fields.proofs.LineLaws.{place_none}
+use Rattle.mps_fields.specs.BooleanLaws.{either}
+use Rattle.mps_fields.specs.FrontLaws.{place_none}
 use Rattle.mps_model.specs.Tables.{ColumnLine}
 use Rattle.mps_model.specs.Bounds.{without_repeats, entry_lines, column_names}
 use Rattle.mps_model.proofs.PlaceLaws.{bytes_flip}

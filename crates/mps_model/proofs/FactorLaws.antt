@@ -6,7 +6,7 @@ use Rattle.std.proofs.lemmas.Bool.{eq-eqb, ne_eqb}
 use Rattle.std.proofs.lemmas.List.{get_or-map, length-map, append-nil, map_more}
 use Rattle.std.proofs.lemmas.List.Quantifiers.{position-Some}
 use Rattle.std.proofs.lemmas.Option.{slice_get-get_or}
-use Rattle.mps_fields.proofs.Booleans.{either}
+use Rattle.mps_fields.specs.BooleanLaws.{either}
 use Rattle.mps_fields.specs.declared.numbers.NumberFault.{NumberFault}
 use Rattle.mps_fields.specs.declared.numbers.NumberFault.TheVariants as numbers
 use Rattle.mps_fields.specs.Reading.{number_of}

@@ -2,9 +2,9 @@
 use Rattle.std.proofs.Common.{◌≡◌, Bool, true, false, true≢false, cond, not, ◌&&◌, ltb, List, [], ◌∷◌, ◌++◌, length, Option, Some, None, refl, sym, ap, subst, ◌∙◌, append_assoc}
 use Rattle.std.specs.Option.{option_map_or}
 use Rattle.std.specs.List.{list_any, list_all, last_or}
-use Rattle.std.proofs.lemmas.Bool.{not-true}
+use Rattle.std.proofs.lemmas.Bool.{not-true, and_parts}
 use Rattle.std.proofs.lemmas.List.{append-nil}
-use Rattle.mps_fields.proofs.Booleans.{either, both_true}
+use Rattle.mps_fields.specs.BooleanLaws.{either}
 use Rattle.mps_fields.specs.Lines.{Line, is_section_line}
 use Rattle.mps_model.specs.declared.layout.Layout.{Layout}
 use Rattle.mps_model.specs.declared.fault.FaultKind.{FaultKind}
@@ -121,7 +121,7 @@ begins_in_order above line h =
 
 -- a section in order has not come
 pub not_there : (sections : List Section) (s : Section) → is_in_order sections s ≡ true → list_any (is_same s) sections ≡ false
-not_there sections s h = not-true (list_any (is_same s) sections) (both_true (may_come (last_or None sections) s) (not (list_any (is_same s) sections)) h).1
+not_there sections s h = not-true (list_any (is_same s) sections) (and_parts (may_come (last_or None sections) s) (not (list_any (is_same s) sections)) h).1
 
 -- behind one more line without fault the table that goes on is still that of the last section
 pub open_more : (layout : Layout) (above : List Line) (line : Line) → line_fault layout above line ≡ None → HasOpenLast above → HasOpenLast (above ++ line ∷ [])

@@ -5,7 +5,8 @@ use Rattle.std.specs.List.{list_all, list_any, last_or, before_first, after_firs
 use Rattle.std.proofs.lemmas.Option.{same_Some}
 use Rattle.std.proofs.lemmas.List.{append-nil}
 use Rattle.std.proofs.lemmas.List.Folds.{list_all-append, list_any-append}
-use Rattle.mps_fields.proofs.Booleans.{either, both_true}
+use Rattle.std.proofs.lemmas.Bool.{and_parts}
+use Rattle.mps_fields.specs.BooleanLaws.{either}
 
 one_more : (n : ℕ) → 1 + n ≡ suc n
 one_more n = omega arith
@@ -102,7 +103,7 @@ part-push begin end xs y =
     ∙ closed (list_any begin xs) (list_any end (after_first begin xs)) (end y) _ _ f)
 
 shorter : {X : Type 0} (h : X → Bool) (b : Bool) (xs : List X) (y : X) → list_all h (cond b (xs ++ y ∷ []) xs) ≡ true → list_all h xs ≡ true
-shorter h true xs y all = (both_true (list_all h xs) (h y && true) (sym (list_all-append h xs (y ∷ [])) ∙ all)).0
+shorter h true xs y all = (and_parts (list_all h xs) (h y && true) (sym (list_all-append h xs (y ∷ [])) ∙ all)).0
 shorter h false xs y all = all
 
 -- what holds of the part holds of what there is of it before more items

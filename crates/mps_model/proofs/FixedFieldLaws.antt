@@ -2,16 +2,16 @@
 use Rattle.std.proofs.Common.{◌≡◌, ℕ, zero, suc, ◌+◌, ◌-◌, Bool, true, false, not, cond, List, [], ◌∷◌, ◌++◌, length, take, drop, reverse, map, Option, Some, None, refl, sym, ap, ◌∙◌, append_assoc, true≢false}
 use Rattle.std.specs.Prelude.{option_map, slice_get, filter_map}
 use Rattle.std.specs.List.{list_all, prefix_len, suffix_len, cons_option}
-use Rattle.std.proofs.lemmas.Bool.{not-true}
+use Rattle.std.proofs.lemmas.Bool.{not-true, and_parts, and_from}
 use Rattle.std.proofs.lemmas.List.{take-append-drop, length-drop, length-reverse, reverse-append, reverse-reverse, append-nil}
 use Rattle.std.proofs.lemmas.List.Folds.{list_all-append}
 use Rattle.std.proofs.Math.Seq.{take-append_seam}
 use Rattle.mps_fields.specs.Lines.{is_blank, is_blank_line}
 use Rattle.mps_fields.specs.FreeFields.{Span, ends_run, onto_first_field, fields_from}
 use Rattle.mps_fields.specs.FixedFields.{is_space, trimmed, without_end, gaps, is_free_at, is_in_columns}
-use Rattle.mps_fields.proofs.Booleans.{either, both_true, true_both}
-use Rattle.mps_fields.proofs.ReadingLaws.{front-all}
-use Rattle.mps_fields.proofs.FieldLaws.{drop-add}
+use Rattle.mps_fields.specs.BooleanLaws.{either}
+use Rattle.mps_fields.specs.FrontLaws.{front-all}
+use Rattle.std.proofs.lemmas.List.{drop-drop}
 use Rattle.mps_model.specs.Sections.{free_texts}
 use Rattle.mps_model.specs.Places.{Fields, fixed_texts}
 use Rattle.mps_model.specs.FixedAsFree.{has_no_blank}
@@ -74,16 +74,16 @@ words-more byte bytes f t =
 words-front : (front rest : List ℕ) → list_all is_blank front ≡ true → words_of (front ++ rest) ≡ words_of rest
 words-front [] rest h = refl
 words-front (byte ∷ front) rest h =
-    let both = both_true (is_blank byte) (list_all is_blank front) h in
+    let both = and_parts (is_blank byte) (list_all is_blank front) h in
     words-blank byte (front ++ rest) both.0 ∙ words-front front rest both.1
 
 -- a run in front is the first word
 words-run : (byte : ℕ) (run rest : List ℕ) → list_all (λ b. not (is_blank b)) (byte ∷ run) ≡ true → ends_run rest ≡ true → words_of (byte ∷ (run ++ rest)) ≡ (byte ∷ run) ∷ words_of rest
 unfolding onto_word
-words-run byte [] rest h e = words-last byte rest (not-true (is_blank byte) (both_true _ _ h).0) e
+words-run byte [] rest h e = words-last byte rest (not-true (is_blank byte) (and_parts _ _ h).0) e
 words-run byte (next ∷ run) rest h e =
-    let both = both_true (not (is_blank byte)) (list_all (λ b. not (is_blank b)) (next ∷ run)) h in
-    let more = both_true (not (is_blank next)) (list_all (λ b. not (is_blank b)) run) both.1 in
+    let both = and_parts (not (is_blank byte)) (list_all (λ b. not (is_blank b)) (next ∷ run)) h in
+    let more = and_parts (not (is_blank next)) (list_all (λ b. not (is_blank b)) run) both.1 in
     words-more byte (next ∷ (run ++ rest)) (not-true (is_blank byte) both.0) (not-true (is_blank next) more.0)
     ∙ ap (onto_word byte) (words-run next run rest both.1 e)
 
@@ -92,9 +92,9 @@ words-run byte (next ∷ run) rest h e =
 all-reverse : (p : ℕ → Bool) (xs : List ℕ) → list_all p xs ≡ true → list_all p (reverse xs) ≡ true
 all-reverse p [] h = refl
 all-reverse p (x ∷ xs) h =
-    let both = both_true (p x) (list_all p xs) h in
+    let both = and_parts (p x) (list_all p xs) h in
     ap (list_all p) (reverse-append (x ∷ []) xs) ∙ list_all-append p (reverse xs) (x ∷ [])
-    ∙ true_both (list_all p (reverse xs)) (list_all p (x ∷ [])) (all-reverse p xs both.1) (true_both (p x) true both.0 refl)
+    ∙ and_from (list_all p (reverse xs)) (list_all p (x ∷ [])) (all-reverse p xs both.1) (and_from (p x) true both.0 refl)
 
 -- bytes are those without the blanks at their end, and blanks
 record Ends (bytes front : List ℕ) : Type 0 where
@@ -125,13 +125,13 @@ space-blank byte h = rw h refl
 spaces-blank : (bytes : List ℕ) → list_all is_space bytes ≡ true → list_all is_blank bytes ≡ true
 spaces-blank [] h = refl
 spaces-blank (byte ∷ bytes) h =
-    let both = both_true (is_space byte) (list_all is_space bytes) h in
-    true_both (is_blank byte) (list_all is_blank bytes) (space-blank byte both.0) (spaces-blank bytes both.1)
+    let both = and_parts (is_space byte) (list_all is_space bytes) h in
+    and_from (is_blank byte) (list_all is_blank bytes) (space-blank byte both.0) (spaces-blank bytes both.1)
 
 -- no run goes on into blanks, and then what ends a run
 ends_run-behind : (back rest : List ℕ) → list_all is_space back ≡ true → ends_run rest ≡ true → ends_run (back ++ rest) ≡ true
 ends_run-behind [] rest h e = e
-ends_run-behind (byte ∷ back) rest h e = space-blank byte (both_true (is_space byte) (list_all is_space back) h).0
+ends_run-behind (byte ∷ back) rest h e = space-blank byte (and_parts (is_space byte) (list_all is_space back) h).0
 
 -- ---- one field
 
@@ -151,7 +151,7 @@ words-text (byte ∷ run) back rest some h b e =
 some_text : (lead bytes text back : List ℕ) → lead ++ (text ++ back) ≡ bytes → list_all is_space lead ≡ true → list_all is_space back ≡ true → list_all is_space bytes ≡ false → text ≡ [] → ⊥
 some_text lead bytes text back joined l b f none =
     let same : lead ++ back ≡ bytes = ap (λ t. lead ++ (t ++ back)) (sym none) ∙ joined in
-    true≢false (sym (ap (list_all is_space) (sym same) ∙ list_all-append is_space lead back ∙ true_both (list_all is_space lead) (list_all is_space back) l b) ∙ f)
+    true≢false (sym (ap (list_all is_space) (sym same) ∙ list_all-append is_space lead back ∙ and_from (list_all is_space lead) (list_all is_space back) l b) ∙ f)
 
 -- the columns of a field, and what ends a run behind them
 words-field : (place : ℕ) (bytes rest : List ℕ) → has_no_blank (text_of_field (trimmed place bytes)) ≡ true → ends_run rest ≡ true
@@ -181,25 +181,25 @@ words-field place bytes rest h e =
 step-field : (n w : ℕ) (line : List ℕ) {rest : List (List ℕ)} → has_no_blank (text_of_field (trimmed n (take w (drop n line)))) ≡ true → ends_run (drop (n + w) line) ≡ true
     → words_of (drop (n + w) line) ≡ rest → words_of (drop n line) ≡ cons_option (text_of_field (trimmed n (take w (drop n line)))) rest
 step-field n w line h e next =
-    let left : drop w (drop n line) ≡ drop (n + w) line = drop-add w n line in
+    let left : drop w (drop n line) ≡ drop (n + w) line = drop-drop w n line in
     ap words_of (sym (ap (λ r. take w (drop n line) ++ r) (sym left) ∙ take-append-drop w (drop n line)))
     ∙ words-field n (take w (drop n line)) (drop (n + w) line) h e ∙ ap (cons_option (text_of_field (trimmed n (take w (drop n line))))) next
 
 -- a column between fields
 step-gap : (n : ℕ) (line : List ℕ) {rest : List (List ℕ)} → list_all is_space (take 1 (drop n line)) ≡ true → words_of (drop (n + 1) line) ≡ rest → words_of (drop n line) ≡ rest
 step-gap n line h next =
-    let left : drop 1 (drop n line) ≡ drop (n + 1) line = drop-add 1 n line in
+    let left : drop 1 (drop n line) ≡ drop (n + 1) line = drop-drop 1 n line in
     ap words_of (sym (ap (λ r. take 1 (drop n line) ++ r) (sym left) ∙ take-append-drop 1 (drop n line)))
     ∙ words-front (take 1 (drop n line)) (drop (n + 1) line) (spaces-blank (take 1 (drop n line)) h) ∙ next
 
 -- a run ends before a column between fields
 gap-ends : (bytes : List ℕ) → list_all is_space (take 1 bytes) ≡ true → ends_run bytes ≡ true
 gap-ends [] h = refl
-gap-ends (byte ∷ bytes) h = space-blank byte (both_true (is_space byte) true h).0
+gap-ends (byte ∷ bytes) h = space-blank byte (and_parts (is_space byte) true h).0
 
 blank-ends : (bytes : List ℕ) → is_blank_line bytes ≡ true → ends_run bytes ≡ true
 blank-ends [] h = refl
-blank-ends (byte ∷ bytes) h = (both_true (is_blank byte) (list_all is_blank bytes) h).0
+blank-ends (byte ∷ bytes) h = (and_parts (is_blank byte) (list_all is_blank bytes) h).0
 
 words-none : (bytes : List ℕ) → is_blank_line bytes ≡ true → words_of bytes ≡ []
 unfolding words_of
@@ -208,8 +208,8 @@ words-none bytes h = ap words_of (sym (append-nil bytes)) ∙ words-front bytes 
 -- what all pass, the one at a place passes
 passes : {X : Type 0} (p : X → Bool) (xs : List X) (i : ℕ) (x : X) → list_all p xs ≡ true → slice_get xs i ≡ Some x → p x ≡ true
 passes p [] i x h e = cc
-passes p (y ∷ ys) zero x h e = let same : y ≡ x = cc in ap p (sym same) ∙ (both_true (p y) (list_all p ys) h).0
-passes p (y ∷ ys) (suc i) x h e = passes p ys i x (both_true (p y) (list_all p ys) h).1 e
+passes p (y ∷ ys) zero x h e = let same : y ≡ x = cc in ap p (sym same) ∙ (and_parts (p y) (list_all p ys) h).0
+passes p (y ∷ ys) (suc i) x h e = passes p ys i x (and_parts (p y) (list_all p ys) h).1 e
 
 -- the fields that are there, in order
 abbrev pub present : Fields → List (List ℕ)
@@ -218,7 +218,7 @@ present fields = filter_map (λ field. field) fields
 pub fields_agree : (line : List ℕ) → is_in_columns line ≡ true → list_all has_no_blank (fixed_texts line) ≡ true → is_blank_line (drop 61 line) ≡ true
     → free_texts line ≡ present (fixed_texts line)
 fields_agree line columns whole behind =
-    let free : list_all (is_free_at line) gaps ≡ true = (both_true _ _ columns).1 in
+    let free : list_all (is_free_at line) gaps ≡ true = (and_parts _ _ columns).1 in
     let gap = λ (i column : ℕ) (there : slice_get gaps i ≡ Some column). passes (is_free_at line) gaps i column free there in
     let field = λ (i : ℕ) (text : Option (List ℕ)) (there : slice_get (fixed_texts line) i ≡ Some text). passes has_no_blank (fixed_texts line) i text whole there in
     texts-from 0 line ∙ (

@@ -4,7 +4,7 @@ use Rattle.std.specs.Prelude.{option_map, option_and_then, slice_get, is_some, c
 use Rattle.std.specs.Option.{option_map_or}
 use Rattle.mps_fields.specs.Lines.{Line}
 use Rattle.mps_fields.specs.FixedFields.{field_between}
-use Rattle.mps_fields.proofs.Booleans.{either}
+use Rattle.mps_fields.specs.BooleanLaws.{either}
 use Rattle.mps_model.specs.declared.layout.Layout.TheVariants.{Free, Fixed}
 use Rattle.mps_model.specs.declared.fault.FaultKind.{FaultKind}
 use Rattle.mps_model.specs.declared.fault.FaultKind.TheVariants as faults

@@ -8,7 +8,8 @@ use Rattle.std.proofs.Math.Seq.{take-add}
 use Rattle.int_model.specs.declared.model.Model.{Model}
 use Rattle.mps_fields.specs.Lines.{Line, is_data_line, is_section_line}
 use Rattle.mps_fields.specs.FixedFields.{is_in_columns}
-use Rattle.mps_fields.proofs.Booleans.{either, both_true, true_both}
+use Rattle.std.proofs.lemmas.Bool.{and_parts, and_from}
+use Rattle.mps_fields.specs.BooleanLaws.{either}
 use Rattle.mps_model.specs.declared.layout.Layout.TheVariants.{Free, Fixed}
 use Rattle.mps_model.specs.declared.fault.FaultKind.{FaultKind}
 use Rattle.mps_model.specs.declared.fault.FaultKind.TheVariants as faults
@@ -131,7 +132,7 @@ record AllFit (above lines : List Line) : Type 0 where
 
 -- what the elements that are kept pass
 kept_pass : (h : Line → Bool) (b : Bool) (line : Line) (rest : List Line) → list_all h (cond b (line ∷ rest) rest) ≡ true → (b ≡ true → h line ≡ true) × (list_all h rest ≡ true)
-kept_pass h true line rest all = let both = both_true (h line) (list_all h rest) all in (λ t. both.0, both.1)
+kept_pass h true line rest all = let both = and_parts (h line) (list_all h rest) all in (λ t. both.0, both.1)
 kept_pass h false line rest all = (λ t. absurd (true≢false (sym t)), all)
 
 first_fits : (above : List Line) (line : Line) (lines : List Line) → HasOpenLast above → AllFit above (line ∷ lines) → FitsAsData above line
@@ -154,7 +155,7 @@ sections_read : (above lines : List Line) → Known above → list_all (λ line.
     → first_line_fault Free above lines ≡ None
 sections_read above [] known all h = first_of_none Free above
 sections_read above (line ∷ lines) known all h =
-    let both = both_true (is_section_line line.bytes) (list_all (λ l. is_section_line l.bytes) lines) all in
+    let both = and_parts (is_section_line line.bytes) (list_all (λ l. is_section_line l.bytes) lines) all in
     let none = none_first Fixed above lines line h in
     let fits : FitsAsData above line = λ c s. absurd (true≢false (sym both.0 ∙ s)) in
     first_later Free above lines line (line_reads above line known fits none)
@@ -200,8 +201,8 @@ next_passes p (x ∷ xs) =
 ends_are_sections : (lines : List Line) → list_all (begins ENDATA) lines ≡ true → list_all (λ line. is_section_line line.bytes) lines ≡ true
 ends_are_sections [] h = refl
 ends_are_sections (line ∷ lines) h =
-    let both = both_true (begins ENDATA line) (list_all (begins ENDATA) lines) h in
-    true_both (is_section_line line.bytes) (list_all (λ l. is_section_line l.bytes) lines) (both_true (is_section_line line.bytes) _ both.0).0 (ends_are_sections lines both.1)
+    let both = and_parts (begins ENDATA line) (list_all (begins ENDATA) lines) h in
+    and_from (is_section_line line.bytes) (list_all (λ l. is_section_line l.bytes) lines) (and_parts (is_section_line line.bytes) _ both.0).0 (ends_are_sections lines both.1)
 
 -- the line of ENDATA, if there is one
 abbrev end_lines : List ℕ → List Line

@@ -4,7 +4,7 @@ use Rattle.std.specs.Prelude.{is_some, IfSome, option_map, option_to_list, optio
 use Rattle.std.specs.Option.{option_copied}
 use Rattle.std.specs.Borrow.{Bor}
 use Rattle.std.specs.List.{list_any, last_or, before_first}
-use Rattle.mps_fields.proofs.Booleans.{either}
+use Rattle.mps_fields.specs.BooleanLaws.{either}
 use Rattle.mps_fields.specs.Lines.{Line, is_section_line}
 use Rattle.mps_model.specs.declared.layout.Layout.{Layout}
 use Rattle.mps_model.specs.declared.stop.LineStop.{LineStop}

@@ -3,10 +3,10 @@ use Rattle.std.proofs.Common.{◌≡◌, ℕ, ◌<◌, ◌≤◌, Bool, true, fa
 use Rattle.std.specs.Option.{option_map_or}
 use Rattle.std.specs.List.{list_any, last_or}
 use Rattle.std.proofs.Math.Bool.{or-false}
-use Rattle.std.proofs.lemmas.Bool.{or_right}
+use Rattle.std.proofs.lemmas.Bool.{or_right, and_parts, and_from}
 use Rattle.std.proofs.lemmas.List.{append-nil}
 use Rattle.std.proofs.lemmas.List.Folds.{list_any-append}
-use Rattle.mps_fields.proofs.Booleans.{either, both_true, true_both, some_of}
+use Rattle.mps_fields.specs.BooleanLaws.{either, some_of}
 use Rattle.mps_model.specs.declared.section.Section.{Section}
 use Rattle.mps_model.specs.declared.section.Section.TheVariants.{Name as NAME, Rows as ROWS, Columns as COLUMNS, Rhs as RHS, Ranges as RANGES, Bounds as BOUNDS, Endata as ENDATA}
 use Rattle.mps_model.specs.declared.order.Order.{Order}
@@ -66,8 +66,8 @@ before_more above t h now = record {
 all_before : (above sections : List Section) → are_in_order above sections ≡ true → AreBefore above → AreBefore (above ++ sections)
 all_before above [] h now = subst AreBefore (sym (append-nil above)) now
 all_before above (s ∷ sections) h now =
-    let both = both_true (is_in_order above s) (are_in_order (above ++ s ∷ []) sections) h in
-    let may = both_true (may_come (last_or None above) s) (not (list_any (is_same s) above)) both.0 in
+    let both = and_parts (is_in_order above s) (are_in_order (above ++ s ∷ []) sections) h in
+    let may = and_parts (may_come (last_or None above) s) (not (list_any (is_same s) above)) both.0 in
     subst AreBefore (append_assoc above (s ∷ []) sections) (all_before (above ++ s ∷ []) sections both.1 (before_more above s may.0 now))
 
 ordered_before : (sections : List Section) → are_in_order [] sections ≡ true → AreBefore sections
@@ -105,10 +105,10 @@ fresh sections s ordered may r b =
 
 ordered-push : (above sections : List Section) (s : Section) → are_in_order above sections ≡ true → is_in_order (above ++ sections) s ≡ true
     → are_in_order above (sections ++ s ∷ []) ≡ true
-ordered-push above [] s h next = true_both (is_in_order above s) true (subst (λ l. is_in_order l s ≡ true) (append-nil above) next) refl
+ordered-push above [] s h next = and_from (is_in_order above s) true (subst (λ l. is_in_order l s ≡ true) (append-nil above) next) refl
 ordered-push above (t ∷ sections) s h next =
-    let both = both_true (is_in_order above t) (are_in_order (above ++ t ∷ []) sections) h in
-    true_both (is_in_order above t) (are_in_order (above ++ t ∷ []) (sections ++ s ∷ [])) both.0
+    let both = and_parts (is_in_order above t) (are_in_order (above ++ t ∷ []) sections) h in
+    and_from (is_in_order above t) (are_in_order (above ++ t ∷ []) (sections ++ s ∷ [])) both.0
     (ordered-push (above ++ t ∷ []) sections s both.1 (subst (λ l. is_in_order l s ≡ true) (sym (append_assoc above (t ∷ []) sections)) next))
 
 -- a section has come behind one more section
@@ -204,8 +204,8 @@ columns_more above s may now = record {
 columns_all : (above sections : List Section) → are_in_order above sections ≡ true → HasColumns above → HasColumns (above ++ sections)
 columns_all above [] h now = subst HasColumns (sym (append-nil above)) now
 columns_all above (s ∷ sections) h now =
-    let both = both_true (is_in_order above s) (are_in_order (above ++ s ∷ []) sections) h in
-    let may = both_true (may_come (last_or None above) s) (not (list_any (is_same s) above)) both.0 in
+    let both = and_parts (is_in_order above s) (are_in_order (above ++ s ∷ []) sections) h in
+    let may = and_parts (may_come (last_or None above) s) (not (list_any (is_same s) above)) both.0 in
     subst HasColumns (append_assoc above (s ∷ []) sections) (columns_all (above ++ s ∷ []) sections both.1 (columns_more above s may.0 now))
 
 pub columns_came : (t : Section) (sections : List Section) → are_in_order [] sections ≡ true → last_or None sections ≡ Some t → 3 ≤ rank (Some t)

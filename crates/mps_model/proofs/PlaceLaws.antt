@@ -7,7 +7,7 @@ use Rattle.std.proofs.lemmas.Option.{cond_some, same_Some, slice_get_past}
 use Rattle.std.proofs.lemmas.List.Folds.{find_at}
 use Rattle.std.proofs.lemmas.Map.Keys.{IsDistinct-head, IsDistinct-tail}
 use Rattle.std.proofs.lemmas.Slice.Eq.{bytes_eq-Decides}
-use Rattle.mps_fields.proofs.LineLaws.{place_none}
+use Rattle.mps_fields.specs.FrontLaws.{place_none}
 use Rattle.mps_model.specs.declared.row_kind.RowKind.{RowKind}
 use Rattle.mps_model.specs.Tables.{RowLine}
 use Rattle.mps_model.specs.RowFaults.{row_names}

@@ -5,14 +5,14 @@ use Rattle.std.specs.Bool.{Decides}
 use Rattle.exact_math.specs.Gcd.{gcd}
 use Rattle.exact_math.specs.Rational.{ℚ}
 use Rattle.frac128.specs.Range.{SumInRange}
-use Rattle.mps_fields.proofs.Booleans.{both_true, true_both}
+use Rattle.std.proofs.lemmas.Bool.{and_parts, and_from}
 use Rattle.mps_model.specs.Sides.{sum_fits}
 
 -- two tests that decide, decide both
 both : {P Q : Type 0} (a b : Bool) → Decides a P → Decides b Q → Decides (a && b) (P × Q)
 both a b f g = (
-  λ t. let two = both_true a b t in (f.0 two.0, g.0 two.1),
-  λ pq. true_both a b (f.1 pq.0) (g.1 pq.1),
+  λ t. let two = and_parts a b t in (f.0 two.0, g.0 two.1),
+  λ pq. and_from a b (f.1 pq.0) (g.1 pq.1),
 )
 
 -- four numbers are below another

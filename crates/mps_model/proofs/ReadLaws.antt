@@ -3,7 +3,8 @@ use Rattle.std.proofs.Common.{◌≡◌, ℕ, ◌+◌, true, false, true≢false
 use Rattle.std.specs.Prelude.{IfOk}
 use Rattle.std.specs.Option.{option_map_or}
 use Rattle.std.specs.List.{list_any, last_or}
-use Rattle.mps_fields.proofs.Booleans.{either, both_true}
+use Rattle.std.proofs.lemmas.Bool.{and_parts}
+use Rattle.mps_fields.specs.BooleanLaws.{either}
 use Rattle.mps_fields.specs.Lines.{Line, lines_of, numbered, is_section_line}
 use Rattle.int_model.specs.declared.model.Model.{Model}
 use Rattle.mps_model.specs.declared.layout.Layout.{Layout}
@@ -121,7 +122,7 @@ module _ (layout : Layout) (given : Option ℤ) (text : List ℕ) (above rest be
       → unless_fault (stated given (tables_of layout (above ++ line ∷ []))) (first_column_fault given (tables_of layout (above ++ line ∷ []))) ≡ meaning layout given text
   read_ended none known ended =
       let ends = sym (ended_at layout above line new now.scanned.unended known) ∙ ended in
-      let same = tables_section layout above line (both_true (is_section_line line.bytes) _ ends).0 in
+      let same = tables_section layout above line (and_parts (is_section_line line.bytes) _ ends).0 in
       ap (λ tables. unless_fault (stated given tables) (first_column_fault given tables)) same
       ∙ sym (end_found layout given text above behind line here now.known.faultless none ends)
 

@@ -2,9 +2,9 @@
 use Rattle.std.proofs.Common.{◌≡◌, ◌<◌, ◌≤◌, Bool, true, false, cond, not, List, [], ◌∷◌, ◌++◌, length, Some, None, Result, sym, ap, subst, ◌∙◌, arith}
 use Rattle.std.specs.Option.{option_map_or}
 use Rattle.std.specs.List.{list_all}
-use Rattle.std.proofs.lemmas.Bool.{and_left, and_right}
+use Rattle.std.proofs.lemmas.Bool.{and_left, and_right, and_from}
 use Rattle.std.proofs.lemmas.Bool.Decides.{Decides-ltb}
-use Rattle.mps_fields.proofs.Booleans.{either, true_both}
+use Rattle.mps_fields.specs.BooleanLaws.{either}
 use Rattle.mps_fields.specs.Lines.{Line, is_section_line}
 use Rattle.mps_model.specs.declared.layout.Layout.{Layout}
 use Rattle.mps_model.specs.declared.fault.FaultKind.{FaultKind}
@@ -102,11 +102,11 @@ not_too_long line h = either (is_long line) (λ t. let long = (Decides-ltb 1024 
 -- a section line of allowed bytes
 pub plain_section : (layout : Layout) (line : Line) → list_all is_allowed_byte line.bytes ≡ true → is_section_line line.bytes ≡ true → has_plain_bytes layout line ≡ true
 plain_section layout line allowed begins =
-    true_both (list_all is_allowed_byte line.bytes) (keeps_columns layout line.bytes) allowed (section_keeps_columns layout line.bytes begins)
+    and_from (list_all is_allowed_byte line.bytes) (keeps_columns layout line.bytes) allowed (section_keeps_columns layout line.bytes begins)
 
 -- a data line of allowed bytes that keeps to its columns
 pub plain_data : (layout : Layout) (line : Line) → list_all is_allowed_byte line.bytes ≡ true → keeps_columns layout line.bytes ≡ true → has_plain_bytes layout line ≡ true
-plain_data layout line allowed keeps = true_both (list_all is_allowed_byte line.bytes) (keeps_columns layout line.bytes) allowed keeps
+plain_data layout line allowed keeps = and_from (list_all is_allowed_byte line.bytes) (keeps_columns layout line.bytes) allowed keeps
 
 pub other_byte : (layout : Layout) (line : Line) → list_all is_allowed_byte line.bytes ≡ false → has_plain_bytes layout line ≡ false
 other_byte layout line h = and_left (list_all is_allowed_byte line.bytes) (keeps_columns layout line.bytes) h

@@ -3,10 +3,9 @@ use Rattle.std.proofs.Common.{◌≡◌, ℕ, ◌+◌, Bool, true, false, cond, 
 use Rattle.std.specs.Prelude.{option_map, Err}
 use Rattle.std.specs.Option.{option_or}
 use Rattle.std.specs.List.{list_any, before_first, position_or_len}
-use Rattle.std.proofs.lemmas.Bool.{or_left, or_right, or_from}
+use Rattle.std.proofs.lemmas.Bool.{or_left, or_right, or_from, or_parts}
 use Rattle.std.proofs.lemmas.List.{append-nil}
 use Rattle.std.proofs.lemmas.List.Folds.{list_any-append}
-use Rattle.mps_fields.proofs.Booleans.{neither}
 use Rattle.mps_fields.specs.Lines.{Line}
 use Rattle.mps_model.specs.declared.layout.Layout.{Layout}
 use Rattle.mps_model.specs.declared.fault.FaultKind.{FaultKind}
@@ -33,13 +32,13 @@ up_to-cons p x xs =
 up_to-append : {X : Type 0} (p : X → Bool) (xs ys : List X) → list_any p xs ≡ false → up_to p (xs ++ ys) ≡ xs ++ up_to p ys
 up_to-append p [] ys none = refl
 up_to-append p (x ∷ xs) ys none =
-    let both = neither (p x) (list_any p xs) none in
+    let both = or_parts (p x) (list_any p xs) none in
     up_to-cons p x (xs ++ ys) ∙ ap (λ b. x ∷ cond b [] (up_to p (xs ++ ys))) both.0 ∙ ap (λ zs. x ∷ zs) (up_to-append p xs ys both.1)
 
 before-append : {X : Type 0} (p : X → Bool) (xs ys : List X) → list_any p xs ≡ false → before_first p (xs ++ ys) ≡ xs ++ before_first p ys
 before-append p [] ys none = refl
 before-append p (x ∷ xs) ys none =
-    let both = neither (p x) (list_any p xs) none in
+    let both = or_parts (p x) (list_any p xs) none in
     before-cons p x (xs ++ ys) ∙ ap (λ b. cond b [] (x ∷ before_first p (xs ++ ys))) both.0 ∙ ap (λ zs. x ∷ zs) (before-append p xs ys both.1)
 
 -- ---- the first line with a fault
@@ -56,7 +55,7 @@ pub unmapped : {A B : Type 0} (f : A → B) (o : Option A) → option_map f o �
 unmapped f None h = refl
 unmapped f (Some x) h = cc
 
--- where no line has a fault, neither the first nor a later one has one
+-- where no line has a fault, or_parts the first nor a later one has one
 pub none_first : (layout : Layout) (above rest : List Line) (line : Line) → first_line_fault layout above (line ∷ rest) ≡ None → line_fault layout above line ≡ None
 unfolding first_line_fault
 none_first layout above rest line h =

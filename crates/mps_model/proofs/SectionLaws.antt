@@ -7,7 +7,8 @@ use Rattle.std.proofs.lemmas.Option.{same_Some}
 use Rattle.std.proofs.lemmas.List.Elements.{filter-append, filter_map-append}
 use Rattle.std.proofs.lemmas.List.{append-nil}
 use Rattle.std.proofs.lemmas.Slice.Eq.{bytes_eq-Decides}
-use Rattle.mps_fields.proofs.Booleans.{either, both_true}
+use Rattle.std.proofs.lemmas.Bool.{and_parts}
+use Rattle.mps_fields.specs.BooleanLaws.{either}
 use Rattle.mps_fields.specs.Lines.{Line, is_blank, is_comment, is_blank_line, is_section_line}
 use Rattle.mps_model.specs.declared.section.Section.{Section}
 use Rattle.mps_model.specs.declared.section.Section.TheVariants.{Name as NAME, Rows as ROWS, Columns as COLUMNS, Rhs as RHS, Ranges as RANGES, Bounds as BOUNDS, Endata as ENDATA}
@@ -52,7 +53,7 @@ begins_found s line h = find_passes (λ t. begins t line) all_sections s h
 
 pub begins_some : (s : Section) (line : Line) → begins s line ≡ true → section_at line ≡ Some s
 begins_some s line h =
-    let both = both_true (is_section_line line.bytes) (bytes_eq (word_at line) (word_of s)) h in
+    let both = and_parts (is_section_line line.bytes) (bytes_eq (word_at line) (word_of s)) h in
     section_of_line line both.0 ∙ word_found (word_at line) s both.1
 
 pub begins_at : (s : Section) (line : Line) (at : Option Section) → section_at line ≡ at → begins s line ≡ option_map_or (is_same s) at false

@@ -7,7 +7,7 @@ use Rattle.std.proofs.lemmas.Bool.{ltb-true, ltb-false, eq-eqb, ne_eqb, cases_eq
 use Rattle.std.proofs.lemmas.List.{get_or-map, length-map}
 use Rattle.std.proofs.lemmas.List.Folds.{find_at}
 use Rattle.std.proofs.lemmas.Option.{slice_get-get_or, slice_get_past}
-use Rattle.mps_fields.proofs.Booleans.{either}
+use Rattle.mps_fields.specs.BooleanLaws.{either}
 use Rattle.mps_model.specs.Tables.{RowLine}
 use Rattle.mps_model.specs.Sides.{has_sides, is_free_row, objective_row}
 use Rattle.mps_model.specs.RowFaults.{row_names}

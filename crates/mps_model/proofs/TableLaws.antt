@@ -5,7 +5,7 @@ use Rattle.std.specs.Option.{option_map_or}
 use Rattle.std.specs.List.{list_all, list_any, last_or, cons_option}
 use Rattle.std.proofs.lemmas.List.Elements.{filter-append, filter_map-append}
 use Rattle.std.proofs.lemmas.List.Folds.{list_all-append}
-use Rattle.mps_fields.proofs.Booleans.{both_true}
+use Rattle.std.proofs.lemmas.Bool.{and_parts}
 use Rattle.mps_fields.specs.Lines.{Line, is_section_line}
 use Rattle.mps_model.specs.declared.layout.Layout.{Layout}
 use Rattle.mps_model.specs.declared.section.Section.{Section}
@@ -128,8 +128,8 @@ table_has s h above rest line says data_line now is all =
     let split = ap content (sym (append_assoc above (line ∷ []) rest)) ∙ filter-append is_content (above ++ line ∷ []) rest in
     let so_far = part_so_far (begins s) ends h (content (above ++ line ∷ [])) (content rest) (sym (ap (λ lines. list_all h (part_of (begins s) ends lines)) split) ∙ all) in
     let added = table_data s (Some s) above line says data_line now is ∙ ap (λ b. cond b (table_of s above ++ line ∷ []) (table_of s above)) (is_same_itself s) in
-    let both = both_true (list_all h (table_of s above)) (h line && true) (sym (ap (list_all h) added ∙ list_all-append h (table_of s above) (line ∷ [])) ∙ so_far) in
-    (both_true (h line) true both.1).0
+    let both = and_parts (list_all h (table_of s above)) (h line && true) (sym (ap (list_all h) added ∙ list_all-append h (table_of s above) (line ∷ [])) ∙ so_far) in
+    (and_parts (h line) true both.1).0
 
 -- ---- all tables
 

@@ -1,5 +1,5 @@
 -- The fields of the code's data lines, without where they lie in memory.
-use Rattle.std.specs.Prelude.{◌≡◌, take}
+use Rattle.std.specs.Prelude.{◌≡◌, map, take}
 use Rattle.mps_fields.specs.Lines.{Line}
 use Rattle.mps_model.specs.declared.layout.Layout.{Layout}
 use Rattle.mps_model.specs.declared.layout.Layout.TheVariants.{Free, Fixed}
@@ -12,9 +12,9 @@ use Rattle.mps_model.specs.declared.data_fields.DataFields.{DataFields}
 
 -- a line is cut so in a layout; of its fields in free form the first six are kept
 abbrev pub IsCutOf : Layout → Line → Cut → Type 0
-IsCutOf Free line (ByRuns texts) = texts ≡ take 6 (free_texts line.bytes)
+IsCutOf Free line (ByRuns found) = map (λ field. field.text) found.fields ≡ take 6 (free_texts line.bytes)
 IsCutOf Free line (ByColumns fields) = ⊥
-IsCutOf Fixed line (ByRuns texts) = ⊥
+IsCutOf Fixed line (ByRuns found) = ⊥
 IsCutOf Fixed line (ByColumns fields) = fields_view fields ≡ fixed_texts line.bytes
 
 -- these are the fields of a data line in a layout

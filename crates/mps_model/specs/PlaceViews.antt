@@ -1,6 +1,8 @@
 -- The six fields of a data line of the code, without where their texts lie in memory.
-use Rattle.std.specs.Prelude.{ℕ, List, [], Option, Some, None, option_map}
+use Rattle.std.specs.Prelude.{ℕ, List, [], map, Option, Some, None, option_map}
 use Rattle.std.specs.Borrow.{Bor}
+use Rattle.mps_fields.specs.declared.field.Field.{Field}
+use Rattle.mps_fields.specs.FieldViews.{field_span}
 use Rattle.mps_model.specs.Places.{Fields, six, row_places, marker_places, column_places, set_places, value_places, bare_places}
 use Rattle.mps_model.specs.declared.places.Places.{Places}
 use Rattle.mps_model.specs.declared.places.Rule.{Rule}
@@ -9,6 +11,10 @@ use Rattle.mps_model.specs.declared.places.Rule.TheVariants.{Row, Marker, Column
 -- a text of the code
 abbrev pub text_of : Bor (List ℕ) → List ℕ
 text_of text = text.now
+
+-- the texts of fields
+abbrev pub texts_of : List Field → List (List ℕ)
+texts_of fields = map (λ span. span.text) (map field_span fields)
 
 -- six fields
 abbrev pub fields_view : Places → Fields

@@ -12,15 +12,14 @@ ghost use Rattle.mps_model.specs.CutLines.{IsCutOf, Cuts, Says};
 
 use crate::bound_kind::BoundKind;
 use crate::data_line::{BoundLine, PairLine, RowLine, marker_word};
-use crate::free_texts::FreeTexts;
 use crate::layout::Layout;
 use crate::places::{Places, Rule, free_places};
-use mps_fields::{Field, TextLine, fields_fixed, fields_free};
+use mps_fields::{Field, FreeFields, TextLine, fields_fixed, fields_free};
 
 /// The fields as the layout cuts them.
 #[derive(Debug, Drop)]
 pub(crate) enum Cut<'a> {
-    Free(FreeTexts<'a>),
+    Free(FreeFields<'a>),
     Fixed(Places<'a>),
 }
 
@@ -65,7 +64,7 @@ fn cut_line<'a>(layout: Layout, line: &TextLine<'a>) -> Option<Cut<'a>>
     ensures cut { IfSome result (IsCutOf layout (line_view line.now)) }
 {
     match layout {
-        Layout::Free => Some(Cut::Free(FreeTexts::from_fields(&fields_free(line)))),
+        Layout::Free => Some(Cut::Free(fields_free(line))),
         Layout::Fixed => fixed_places(line).map(Cut::Fixed),
     }
 }
@@ -88,7 +87,7 @@ impl<'a> DataFields<'a> {
         ensures { Says self.now (places_view result) (λ layout line. places_at layout (rule_of rule) line.bytes) }
     {
         match &self.cut {
-            Cut::Free(fields) => free_places(rule, fields.texts()),
+            Cut::Free(fields) => free_places(rule, fields.fields()),
             Cut::Fixed(fields) => Some(*fields),
         }
     }
@@ -98,7 +97,7 @@ impl<'a> DataFields<'a> {
         ensures { Says self.now (option_map text_of result) (λ layout line. kind_text layout line.bytes) }
     {
         match &self.cut {
-            Cut::Free(fields) => fields.texts().first().copied(),
+            Cut::Free(fields) => fields.fields().first().map(|field| field.text),
             Cut::Fixed(fields) => fields.first,
         }
     }
@@ -108,7 +107,7 @@ impl<'a> DataFields<'a> {
         ensures { Says self.now (option_map text_of result) (λ layout line. mark_text layout line.bytes) }
     {
         match &self.cut {
-            Cut::Free(fields) => fields.texts().get(1).copied(),
+            Cut::Free(fields) => fields.fields().get(1).map(|field| field.text),
             Cut::Fixed(fields) => fields.third,
         }
     }

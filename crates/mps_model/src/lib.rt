@@ -10,7 +10,6 @@ mod data_line;
 mod examples;
 mod factors;
 mod fault;
-mod free_texts;
 mod judgement;
 mod layout;
 mod layout_law;

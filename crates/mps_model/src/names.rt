@@ -67,13 +67,6 @@ impl Names {
         self.set.len()
     }
 
-    /// The names in order.
-    pub(crate) fn items(&self) -> &[Vec<u8>]
-        ensures { map (λ name. name.items) result.now ≡ self.now }
-    {
-        self.set.as_slice()
-    }
-
     /// Hands out the names in order.
     pub(crate) fn into_items(self) -> IntoIter<Vec<u8>>
         ensures items { map (λ name. name.items) result ≡ self }

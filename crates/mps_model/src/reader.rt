@@ -2,7 +2,7 @@
 ghost use Rattle.std.specs.Prelude.{◌≡◌, ◌≤◌, ◌∷◌, [], ◌++◌, ℤ, List, Option, true, false, length, option_map};
 ghost use Rattle.std.specs.Option.{option_map_or};
 ghost use Rattle.exact_math.specs.Rational.{whole};
-ghost use Rattle.mps_fields.specs.Lines.{Line, is_section_line as section_line};
+ghost use Rattle.mps_fields.specs.Lines.{Line, is_section_line as begins_section};
 ghost use Rattle.mps_fields.specs.LineViews.{line_view};
 ghost use Rattle.mps_model.specs.declared.layout.Layout.{Layout as TheLayout};
 ghost use Rattle.mps_model.specs.Sections.{is_content as content_line};
@@ -23,7 +23,7 @@ use crate::line_kind::{is_allowed, is_content, is_section_line};
 use crate::order::Order;
 use crate::read_stop::ReadStop;
 use crate::section::Section;
-use crate::sections::{has_more_fields, section_at};
+use crate::sections::section_line;
 use crate::stop::LineStop;
 use crate::text_tables::TextTables;
 use frac128::Frac;
@@ -88,20 +88,20 @@ impl<'a> Reader<'a> {
     // Judges a section line, and begins its section.
     fn begin(&mut self, line: &TextLine) -> Result<(), LineStop>
         requires { length line.now.bytes.now ≤ 1024 }
-        ensures { (layout : TheLayout) (above : List Line) → section_line line.now.bytes.now ≡ true
+        ensures { (layout : TheLayout) (above : List Line) → begins_section line.now.bytes.now ≡ true
             → line_fault layout above (line_view line.now) ≡ section_fault above (line_view line.now) → Keeps layout above self.old
             → Judges (line_fault layout above (line_view line.now)) (Keeps layout (above ++ line_view line.now ∷ []) self.new) result }
     {
-        let Some(section) = section_at(line) else {
+        let Some(said) = section_line(line) else {
             return Err(LineStop::Fault(FaultKind::Section));
         };
-        let Some(order) = self.order.next(section) else {
+        let Some(order) = self.order.next(said.section) else {
             return Err(LineStop::Fault(FaultKind::Section));
         };
-        if has_more_fields(line) {
+        if said.has_more_fields {
             return Err(LineStop::Fault(FaultKind::FieldCount));
         }
-        self.tables.begin(self.alloc, section)?;
+        self.tables.begin(self.alloc, said.section)?;
         self.order = order;
         Ok(())
     }

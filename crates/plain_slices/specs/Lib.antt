@@ -1,2 +1,5 @@
 pub mod Slices
 pub mod Ends
+pub mod Items
+pub mod Shut
+pub mod Nodes

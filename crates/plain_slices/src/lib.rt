@@ -3,6 +3,8 @@
 
 mod ends;
 mod search;
+mod node;
+mod single;
 #[cfg(test)]
 mod tests;
 

@@ -1,6 +1,6 @@
 use Rattle.std.proofs.Common.{◌<◌, ◌+◌, length, sym, ◌∙◌, arith}
 use Rattle.std.proofs.lemmas.Bool.{eqb-true}
-use Rattle.mps_fields.proofs.Booleans.{above_zero}
+use Rattle.mps_fields.specs.BooleanLaws.{above_zero}
 use Rattle.mps_fields.proofs.PartLaws.{are_cut, no_decimal, no_exponent, parts_are}
 use Rattle.mps_fields.proofs.parts.cut_parts.Goals as goal
 use Rattle.mps_fields.proofs.parts.cut_parts.Goals.{else-is_empty-via-then-is_empty+else-is_empty-2, else-is_empty-via-else-is_empty}

@@ -1,0 +1,64 @@
+-- The box of a node, narrowed by the slices that fix a column, and the inequalities that bound each column there.
+use Rattle.std.specs.Prelude.{◌≡◌, ◌↔◌, ℕ, ◌+◌, ◌*◌, ◌^◌, ◌<◌, ℤ, pos, ◌≤ℤ◌, ◌<ℤ◌, Bool, true, false, IsTrue, int_lt, List, length, All, None, Some, if◌then◌else◌, slice_index_or}
+use Rattle.exact_math.specs.Ring.{integers}
+use Rattle.exact_vectors.specs.Vectors.{negate}
+use Rattle.whole_rows.specs.declared.bounds.Bounds.{Bounds}
+use Rattle.whole_rows.specs.WholeRows.{WholeRows, LiesIn, bounds_at}
+use Rattle.farkas_rows.specs.declared.path.Slice.{Slice}
+use Rattle.farkas_rows.specs.Inequalities.{at_most, at_least, unit, inequality_at}
+use Rattle.proof_tree.specs.Trees.{IsOfSize}
+use Rattle.plain_slices.specs.declared.node.Source.{Source}
+use Rattle.plain_slices.specs.Shut.{IsFixedBy, LiesInNarrowed}
+
+-- a column's value, or minus it
+abbrev pub signed_unit : Bool → ℕ → ℕ → List ℤ
+signed_unit negative columns column = if negative then negate integers (unit columns column) else unit columns column
+
+-- the bounds of a column of the narrowed box
+abbrev pub narrowed_at : List Bounds → ℕ → Bounds
+narrowed_at bounds column = slice_index_or bounds column (record { low = pos 0; high = pos 0 })
+
+-- where they come from
+abbrev pub source_at : List Source → ℕ → Source
+source_at sources column = slice_index_or sources column (record { above = 0; below = 0; is_fixed = false })
+
+-- where the bounds of the box come from, after so many rows
+abbrev pub box_source : ℕ → ℕ → Source
+box_source rows column = record { above = 2 * rows + 2 * column; below = 2 * rows + 2 * column + 1; is_fixed = false }
+
+-- the values between the bounds that are this one: each bound that is looser gives way to it
+abbrev pub bounds_fixed : Bounds → ℤ → Bounds
+bounds_fixed bounds value = record {
+  low = if int_lt bounds.low value then value else bounds.low;
+  high = if int_lt value bounds.high then value else bounds.high;
+}
+
+-- the numbers of the bounds, where those of the value take the place of the looser ones
+abbrev pub source_fixed : Bounds → Source → ℤ → ℕ → ℕ → Source
+source_fixed bounds source value above below = record {
+  above = if int_lt value bounds.high then above else source.above;
+  below = if int_lt bounds.low value then below else source.below;
+  is_fixed = true;
+}
+
+-- The two inequalities that bound a column at a node of this path, whose slices so far are `done`.
+pub record IsTight (rows : WholeRows) (path done : List Slice) (column : ℕ) (bounds : Bounds) (source : Source) : Type 0 where
+  pub above : inequality_at rows path None source.above ≡ Some (at_most (unit (length rows.box) column) bounds.high)
+  pub below : inequality_at rows path None source.below ≡ Some (at_least (unit (length rows.box) column) bounds.low)
+  pub within_low : (bounds_at rows column).low ≤ℤ bounds.low
+  pub within_high : bounds.high ≤ℤ (bounds_at rows column).high
+  pub small_low : IsOfSize (2 ^ 98) bounds.low
+  pub small_high : IsOfSize (2 ^ 98) bounds.high
+  pub fixed : IsTrue source.is_fixed ↔ IsFixedBy (length rows.box) done column
+  pub one_value : IsTrue source.is_fixed → bounds.high ≤ℤ bounds.low
+
+-- The box of a node of this path, narrowed by the slices `done`.
+pub record IsNarrowed (rows : WholeRows) (path done : List Slice) (bounds : List Bounds) (sources : List Source) : Type 0 where
+  pub dense : length bounds ≡ length rows.box
+  pub sourced : length sources ≡ length rows.box
+  pub points : (x : List ℤ) → LiesIn bounds x ↔ LiesInNarrowed rows done x
+  pub tight : (column : ℕ) → column < length rows.box → IsTight rows path done column (narrowed_at bounds column) (source_at sources column)
+
+-- the bounds of no column cross
+abbrev pub IsOpenBox : List Bounds → Type 0
+IsOpenBox bounds = All (λ (b : Bounds). b.low ≤ℤ b.high) bounds

@@ -1,0 +1,4 @@
+mod FlatLemmas
+mod SumLemmas
+mod WholeRowLemmas
+mod EndLemmas
