@@ -1,6 +1,7 @@
 //! The commands of the program over a desk.
 #![tactic(auto)]
 
+mod counts;
 mod program;
 mod report;
 mod status;
