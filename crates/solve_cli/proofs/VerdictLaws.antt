@@ -3,7 +3,7 @@ use Rattle.std.proofs.Common.{◌≡◌, ◌⊎◌, ⊎_elim, inl, inr, ℕ, ◌
 use Rattle.std.specs.Prelude.{Result, Ok, Err}
 use Rattle.int_model.specs.declared.part.Part.{Part}
 use Rattle.int_model.specs.declared.model.Model.{Model}
-use Rattle.int_model.proofs.FirstLargeLaws.{first_large_is_one}
+use Rattle.int_model.specs.FirstLargeLaws.{first_large_is_one}
 use Rattle.mps_model.specs.declared.fault.TextFault.{TextFault}
 use Rattle.mps_model.specs.Meaning.{meaning}
 use Rattle.solve_cli.specs.declared.status.Input.TheVariants.{ModelText}

@@ -78,7 +78,7 @@ fn search(alloc: Global, model: &Model) -> Result<Reply, NoMemory>
         Err(RowsStop::Large(part)) => return limit_reply(alloc, model, part),
         Err(RowsStop::NoMemory) => return Err(NoMemory),
     };
-    let Some(point) = plain_point(alloc, &rows)? else {
+    let Some(point) = plain_point(alloc, rows.whole())? else {
         return line_reply(alloc, Status::Infeasible, b"INFEASIBLE");
     };
     let value = rows.value(&point);
