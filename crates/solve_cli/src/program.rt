@@ -19,9 +19,16 @@ use sequence::NoMemory;
 use std::alloc::Global;
 
 // Judges a text, and searches the model that it states.
-fn solve(alloc: Global, layout: Layout, upper: Option<i128>, text: &[u8]) -> Result<Reply, NoMemory>
-    requires { IfSome upper (λ bound. pos 0 ≤ℤ bound) }
-    ensures { IfOk result (Replies (Verdict (options layout upper) text.now)) }
+fn solve(
+    alloc: Global,
+    layout: Layout,
+    upper: Option<i128>,
+    nodes: u32,
+    text: &[u8],
+) -> Result<Reply, NoMemory>
+    requires upper { IfSome upper (λ bound. pos 0 ≤ℤ bound) }
+    requires some { 1 ≤ nodes }
+    ensures { IfOk result (Replies (Verdict (options layout upper nodes) text.now)) }
 {
     if text.len() > MOST_TEXT_BYTES {
         return line_reply(alloc, Status::TooLong(Input::ModelText), b"LIMIT MODEL");
