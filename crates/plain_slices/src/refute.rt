@@ -145,11 +145,7 @@ impl Node<'_> {
     }
 
     /// The line that closes the node, where it is shut.
-    pub(crate) fn refute(
-        &self,
-        alloc: Global,
-        best: Option<i128>,
-    ) -> Result<Option<Line>, NoMemory>
+    pub(crate) fn refute(&self, alloc: Global, best: Option<i128>) -> Result<Option<Line>, NoMemory>
         requires node { IsNode self.now }
         requires path { IsPathWithin self.now.rows.now self.now.path.now }
         requires best { IfSome best (IsOfSize (2 ^ 97)) }

@@ -1,7 +1,6 @@
-use Rattle.std.proofs.Common.{◌≡◌, ◌≤◌, length, pos, ◌-ℤ◌, arith, rules, FitsSigned}
+use Rattle.std.proofs.Common.{pos, ◌-ℤ◌, arith, rules, FitsSigned}
 use Rattle.std.specs.Int.{w128}
 use Rattle.std.proofs.lemmas.Int.{to_z-of_z}
-use Rattle.whole_rows.specs.WholeRows.{span}
 use Rattle.exact_math.specs.IntegerRing.{linear}
 use Rattle.plain_slices.proofs.ShutLaws.{span-narrowed, cannot-meet}
 use Rattle.plain_slices.proofs.node.Node.line_of_best.Goals as goal

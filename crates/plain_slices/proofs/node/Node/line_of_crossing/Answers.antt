@@ -1,7 +1,5 @@
-use Rattle.std.proofs.Common.{◌≡◌, ◌≤◌, ◌<◌, ◌^◌, None, false, length, nat_abs, sym, ap, ◌∙◌, arith}
+use Rattle.std.proofs.Common.{◌≡◌, ◌<◌, None, false, length, ◌∙◌, arith}
 use Rattle.std.proofs.lemmas.List.{get_or_default}
-use Rattle.exact_math.specs.IntegerRing.{linear}
-use Rattle.plain_slices.specs.declared.node.Source.{Source}
 use Rattle.plain_slices.specs.Nodes.{narrowed_at, source_at}
 use Rattle.plain_slices.proofs.RefuteLaws.{pair-differ, refutes-pair}
 use Rattle.plain_slices.proofs.ShutLaws.{crossing-shut}
