@@ -7,12 +7,13 @@ use Rattle.desk_io.specs.declared.desk.Call.TheVariants.{Take, Say}
 use Rattle.desk_io.specs.AppendLaws.{appends_all}
 use Rattle.desk_io.specs.FaultLaws.{rose_after}
 use Rattle.solve_cli.specs.declared.status.Status.{Status}
-use Rattle.solve_cli.specs.declared.status.Status.TheVariants.{Optimal, Infeasible, Words, Text, TooLong, Large, ReadFault, WriteFault, NoMemory}
+use Rattle.solve_cli.specs.declared.status.Status.TheVariants.{Optimal, Infeasible, Spent, Words, Text, TooLong, Large, ReadFault, WriteFault, NoMemory}
 use Rattle.solve_cli.specs.Words.{Solve, command_of}
 use Rattle.solve_cli.specs.Report.{report_of}
 use Rattle.solve_cli.specs.Verdict.{Verdict}
 use Rattle.solve_cli.specs.Answer.{Given, Faults, JudgesText, Reason, SaysSome, Answer, IsJudged, IsCalm, KeepsFaults, FailedInSay, TakesInput, Gives, IsComplete}
 use Rattle.solve_cli.specs.Solving.{IsSaid, FailsInTake}
+use Rattle.solve_cli.proofs.VerdictLaws.{ends, decides}
 
 -- ---- the answer
 
@@ -21,6 +22,7 @@ all_said : (given : Given) (faults : Faults) (status : Status) (lines : List (Li
     → after ≡ option_map (appended (report_of lines)) before → Answer given faults before after status
 all_said given faults Optimal lines before after reason said = record { lines = lines; reason = reason; said = said }
 all_said given faults Infeasible lines before after reason said = record { lines = lines; reason = reason; said = said }
+all_said given faults Spent lines before after reason said = record { lines = lines; reason = reason; said = said }
 all_said given faults Words lines before after reason said = record { lines = lines; reason = reason; said = said }
 all_said given faults (Text fault) lines before after reason said = record { lines = lines; reason = reason; said = said }
 all_said given faults (TooLong input) lines before after reason said = record { lines = lines; reason = reason; said = said }
@@ -116,22 +118,41 @@ module _ (given : Given) (now : Faults) (status : Status) (lines : List (List �
   judged_complete = record {
     no_command = λ none calm. no_none given status lines judges none;
     text = λ command text spelled told calm. inl (gives given status lines judges command text spelled told);
+    ends = λ command text model spelled told small calm.
+        let given_lines = gives given status lines judges command text spelled told in
+        ⊎_elim (λ decided. inl decided) (λ spent. inr (inl spent)) (ends command.options text model status given_lines.0 small given_lines.1);
+    enough = λ command text model spelled told small enough calm. 
+        let given_lines = gives given status lines judges command text spelled told in
+        inl (decides command.options text model status given_lines.0 small enough given_lines.1);
   }
 
 -- and so is each where a fault rose
 faulty_complete : (given : Given) (now : Faults) (status : Status) → Rose given.faults now.count → IsComplete given now status
-faulty_complete given now status rose = record { no_command = λ none calm. absurd (calm rose); text = λ command text spelled told calm. absurd (calm rose) }
+faulty_complete given now status rose = record {
+  no_command = λ none calm. absurd (calm rose);
+  text = λ command text spelled told calm. absurd (calm rose);
+  ends = λ command text model spelled told small calm. absurd (calm rose);
+  enough = λ command text model spelled told small enough calm. absurd (calm rose);
+}
 
 pub completes : (given : Given) (now : Faults) (before after : Option (List ℕ)) (status : Status) → Answer given now before after status → IsComplete given now status
 completes given now before after Optimal answer = judged_complete given now Optimal answer.lines answer.reason
 completes given now before after Infeasible answer = judged_complete given now Infeasible answer.lines answer.reason
+completes given now before after Spent answer = judged_complete given now Spent answer.lines answer.reason
 completes given now before after (Text fault) answer = judged_complete given now (Text fault) answer.lines answer.reason
 completes given now before after (TooLong input) answer = judged_complete given now (TooLong input) answer.lines answer.reason
 completes given now before after (Large part) answer = judged_complete given now (Large part) answer.lines answer.reason
 completes given now before after Words answer = record {
   no_command = λ none calm. inl refl;
   text = λ command text spelled told calm. absurd (none-some command (sym answer.reason.0 ∙ spelled));
+  ends = λ command text model spelled told small calm. absurd (none-some command (sym answer.reason.0 ∙ spelled));
+  enough = λ command text model spelled told small enough calm. absurd (none-some command (sym answer.reason.0 ∙ spelled));
 }
 completes given now before after ReadFault answer = faulty_complete given now ReadFault answer.reason.rose
 completes given now before after WriteFault answer = faulty_complete given now WriteFault (rose_after given.faults answer.earlier.count now.count answer.later answer.rose)
-completes given now before after NoMemory answer = record { no_command = λ none calm. inr refl; text = λ command text spelled told calm. inr refl }
+completes given now before after NoMemory answer = record {
+  no_command = λ none calm. inr refl;
+  text = λ command text spelled told calm. inr refl;
+  ends = λ command text model spelled told small calm. inr (inr refl);
+  enough = λ command text model spelled told small enough calm. inr refl;
+}

@@ -1,6 +1,6 @@
 -- Words are read as a command exactly where they are that command written down.
-use Rattle.std.proofs.Common.{◌≡◌, ◌-◌, ℕ, ℤ, pos, negsuc, ◌≤ℤ◌, Bool, true, false, cond, List, [], ◌∷◌, ◌++◌, length, take, drop, Option, Some, None, refl, sym, ap, ◌∙◌, subst, arith, take-append-drop}
-use Rattle.std.specs.Prelude.{All, IfSome, option_map, option_and_then, codes, bytes_eq, flat_map}
+use Rattle.std.proofs.Common.{◌≡◌, ◌-◌, ℕ, ℤ, pos, negsuc, ◌≤◌, ◌≤ℤ◌, Bool, true, false, cond, List, [], ◌∷◌, ◌++◌, length, take, drop, Option, Some, None, refl, sym, ap, ◌∙◌, subst, arith, take-append-drop}
+use Rattle.std.specs.Prelude.{All, IfSome, option_map, option_and_then, unwrap_or, codes, bytes_eq, flat_map, decimal}
 use Rattle.std.proofs.lemmas.Bool.{cond-true}
 use Rattle.std.proofs.lemmas.Int.{ints}
 use Rattle.std.proofs.lemmas.List.{length-append, take_at, drop_at}
@@ -12,9 +12,9 @@ use Rattle.mps_model.specs.declared.layout.Layout.{Layout}
 use Rattle.mps_model.specs.declared.layout.Layout.TheVariants.{Free}
 use Rattle.mps_model.specs.declared.layout.Layout.TheVariants as Layouts
 use Rattle.solve_cli.specs.declared.words.SolveOption.{SolveOption}
-use Rattle.solve_cli.specs.declared.words.SolveOption.TheVariants.{Fixed, Upper}
+use Rattle.solve_cli.specs.declared.words.SolveOption.TheVariants.{Fixed, Upper, Nodes}
 use Rattle.solve_cli.specs.declared.words.Chosen.{Chosen}
-use Rattle.solve_cli.specs.Words.{Options, number_within, most_upper, valued_option_of, chosen_options, options_of, option_words, IsOption, settled, with_fixed, with_upper, with_option, none_chosen, settled_options, named, are_file_names, Solve, solve_of, command_of, Spells}
+use Rattle.solve_cli.specs.Words.{Options, number_within, most_upper, most_nodes, valued_option_of, chosen_options, options_of, option_words, IsOption, settled, with_fixed, with_upper, with_nodes, with_option, none_chosen, settled_options, named, are_file_names, Solve, solve_of, command_of, Spells}
 use Rattle.solve_cli.proofs.NumberSpelling.{number_spelled, spelled_number}
 
 -- ---- steps of options
@@ -47,14 +47,32 @@ two_same : (one other first second : List ℕ) → first ≡ one → second ≡ 
 two_same one other first second a b = rw (a, b) refl
 
 -- an option of two words is written as those
-valued_written : (word next : List ℕ) (option : SolveOption) → valued_option_of word next ≡ Some option → IsOption option × (option_words option ≡ word ∷ next ∷ [])
-valued_written word next option e =
-    let told = when_true (bytes_eq word (codes "--upper")) (option_map (λ bound. Upper (pos bound)) (number_within 0 most_upper next)) option e in
-    let bound = map_some (λ bound. Upper (pos bound)) (number_within 0 most_upper next) option told.1 in
+abbrev WrittenAs : List ℕ → List ℕ → SolveOption → Type 0
+WrittenAs word next option = IsOption option × (option_words option ≡ word ∷ next ∷ [])
+
+upper_written : (word next : List ℕ) (option : SolveOption) → word ≡ codes "--upper" → option_map (λ bound. Upper (pos bound)) (number_within 0 most_upper next) ≡ Some option → WrittenAs word next option
+upper_written word next option is_word e =
+    let bound = map_some (λ bound. Upper (pos bound)) (number_within 0 most_upper next) option e in
     let spelled = number_spelled 0 most_upper (omega arith) next bound.0 bound.1 in
     let low : pos 0 ≤ℤ pos bound.0 = omega (arith, ints) in
     let high : pos bound.0 ≤ℤ pos most_upper = omega (arith, ints, spelled.1) in
-    subst (λ o. IsOption o × (option_words o ≡ word ∷ next ∷ [])) bound.2 ((low, high), two_same (codes "--upper") (signed_decimal (pos bound.0)) word next (text_is word (codes "--upper") told.0) spelled.2)
+    subst (WrittenAs word next) bound.2 ((low, high), two_same (codes "--upper") (signed_decimal (pos bound.0)) word next is_word spelled.2)
+
+nodes_written : (word next : List ℕ) (option : SolveOption) → word ≡ codes "--nodes" → option_map Nodes (number_within 1 most_nodes next) ≡ Some option → WrittenAs word next option
+nodes_written word next option is_word e =
+    let count = map_some Nodes (number_within 1 most_nodes next) option e in
+    let spelled = number_spelled 1 most_nodes (omega arith) next count.0 count.1 in
+    subst (WrittenAs word next) count.2 ((spelled.0, spelled.1), two_same (codes "--nodes") (decimal count.0) word next is_word spelled.2)
+
+valued_written : (word next : List ℕ) (option : SolveOption) → valued_option_of word next ≡ Some option → WrittenAs word next option
+valued_written word next option e = by (bytes_eq word (codes "--upper")) (bytes_eq word (codes "--nodes")) refl refl e
+  where
+    by : (upper nodes : Bool) → bytes_eq word (codes "--upper") ≡ upper → bytes_eq word (codes "--nodes") ≡ nodes
+        → cond upper (option_map (λ bound. Upper (pos bound)) (number_within 0 most_upper next)) (cond nodes (option_map Nodes (number_within 1 most_nodes next)) None) ≡ Some option
+        → WrittenAs word next option
+    by true nodes is_upper is_nodes e = upper_written word next option (text_is word (codes "--upper") is_upper) e
+    by false true is_upper is_nodes e = nodes_written word next option (text_is word (codes "--nodes") is_nodes) e
+    by false false is_upper is_nodes e = absurd cc
 
 valued_more : (word next : List ℕ) (words : List (List ℕ)) (option : SolveOption) (options : List SolveOption) → valued_option_of word next ≡ Some option → Written words options
     → Written (word ∷ next ∷ words) (option ∷ options)
@@ -105,6 +123,9 @@ written_bound : (b : ℤ) → IsOption (Upper b) → valued_option_of (codes "--
 written_bound (pos u) range = ap (option_map (λ bound. Upper (pos bound))) (spelled_number 0 most_upper (omega arith) u (omega arith) (omega (arith, ints, range.1)))
 written_bound (negsuc n) range = absurd (omega (arith, ints, range.0))
 
+written_nodes : (count : ℕ) → IsOption (Nodes count) → valued_option_of (codes "--nodes") (decimal count) ≡ Some (Nodes count)
+written_nodes count range = ap (option_map Nodes) (spelled_number 1 most_nodes (omega arith) count range.0 range.1)
+
 -- and the words of options are read as them
 written_options : (options : List SolveOption) → All IsOption options → options_of (flat_map option_words options) ≡ Some options
 unfolding options_of
@@ -114,6 +135,10 @@ written_options (Fixed ∷ options) range =
 written_options (Upper b ∷ options) range =
     valued_front (codes "--upper") (signed_decimal b) (flat_map option_words options) (Upper b) refl (written_bound b (All-head IsOption (Upper b) options range))
     ∙ ap (option_map (λ more. Upper b ∷ more)) (written_options options (All-tail IsOption (Upper b) options range))
+
+written_options (Nodes n ∷ options) range =
+    valued_front (codes "--nodes") (decimal n) (flat_map option_words options) (Nodes n) refl (written_nodes n (All-head IsOption (Nodes n) options range))
+    ∙ ap (option_map (λ more. Nodes n ∷ more)) (written_options options (All-tail IsOption (Nodes n) options range))
 
 -- ---- commands
 
@@ -175,23 +200,32 @@ module _ (command : Solve) (options : List SolveOption) (range : All IsOption op
 pub spelled_command : (words : List (List ℕ)) (command : Solve) → Spells words command → command_of words ≡ Some command
 spelled_command words command s = ap command_of s.spelled ∙ spelled_solve command s.options s.in_range s.chosen s.once s.meant s.names
 
--- ---- the upper bound of a command
+-- ---- the numbers of a command
 
--- an upper bound is at least 0
-abbrev pub IsBounded : Chosen → Type 0
-IsBounded chosen = IfSome chosen.upper (λ bound. pos 0 ≤ℤ bound)
+-- an upper bound is at least 0, and a budget is from 1 to 1000
+pub record IsBounded (chosen : Chosen) : Type 0 where
+  pub upper : IfSome chosen.upper (λ bound. pos 0 ≤ℤ bound)
+  pub nodes : IfSome chosen.nodes (λ count. (1 ≤ count) × (count ≤ most_nodes))
 
-bounded_fixed : (layout : Layout) (upper : Option ℤ) (more : Chosen) → IfSome upper (λ bound. pos 0 ≤ℤ bound) → with_fixed layout upper ≡ Some more → IsBounded more
-bounded_fixed Free upper more bounded e = subst IsBounded (same_Some (record { layout = Layouts.Fixed; upper = upper }) more e) bounded
-bounded_fixed Layouts.Fixed upper more bounded e = absurd cc
+bounded_fixed : (layout : Layout) (upper : Option ℤ) (nodes : Option ℕ) (more : Chosen) → IfSome upper (λ bound. pos 0 ≤ℤ bound) → IfSome nodes (λ count. (1 ≤ count) × (count ≤ most_nodes))
+    → with_fixed layout upper nodes ≡ Some more → IsBounded more
+bounded_fixed Free upper nodes more low range e = subst IsBounded (same_Some (record { layout = Layouts.Fixed; upper = upper; nodes = nodes }) more e) (record { upper = low; nodes = range })
+bounded_fixed Layouts.Fixed upper nodes more low range e = absurd cc
 
-bounded_upper : (bound : ℤ) (layout : Layout) (upper : Option ℤ) (more : Chosen) → pos 0 ≤ℤ bound → with_upper bound layout upper ≡ Some more → IsBounded more
-bounded_upper bound layout None more low e = subst IsBounded (same_Some (record { layout = layout; upper = Some bound }) more e) low
-bounded_upper bound layout (Some other) more low e = absurd cc
+bounded_upper : (bound : ℤ) (layout : Layout) (upper : Option ℤ) (nodes : Option ℕ) (more : Chosen) → pos 0 ≤ℤ bound → IfSome nodes (λ count. (1 ≤ count) × (count ≤ most_nodes))
+    → with_upper bound layout upper nodes ≡ Some more → IsBounded more
+bounded_upper bound layout None nodes more low range e = subst IsBounded (same_Some (record { layout = layout; upper = Some bound; nodes = nodes }) more e) (record { upper = low; nodes = range })
+bounded_upper bound layout (Some other) nodes more low range e = absurd cc
+
+bounded_nodes : (count : ℕ) (layout : Layout) (upper : Option ℤ) (nodes : Option ℕ) (more : Chosen) → (1 ≤ count) × (count ≤ most_nodes) → IfSome upper (λ bound. pos 0 ≤ℤ bound)
+    → with_nodes count layout upper nodes ≡ Some more → IsBounded more
+bounded_nodes count layout upper None more range low e = subst IsBounded (same_Some (record { layout = layout; upper = upper; nodes = Some count }) more e) (record { upper = low; nodes = range })
+bounded_nodes count layout upper (Some other) more range low e = absurd cc
 
 bounded_with : (given more : Chosen) (option : SolveOption) → IsOption option → IsBounded given → with_option given option ≡ Some more → IsBounded more
-bounded_with given more Fixed range bounded e = bounded_fixed given.layout given.upper more bounded e
-bounded_with given more (Upper bound) range bounded e = bounded_upper bound given.layout given.upper more range.0 e
+bounded_with given more Fixed range bounded e = bounded_fixed given.layout given.upper given.nodes more bounded.upper bounded.nodes e
+bounded_with given more (Upper bound) range bounded e = bounded_upper bound given.layout given.upper given.nodes more range.0 bounded.nodes e
+bounded_with given more (Nodes count) range bounded e = bounded_nodes count given.layout given.upper given.nodes more range bounded.upper e
 
 bounded_settled : (given more : Chosen) (options : List SolveOption) → All IsOption options → IsBounded given → settled given options ≡ Some more → IsBounded more
 bounded_settled given more [] range bounded e = subst IsBounded (same_Some given more e) bounded
@@ -200,8 +234,20 @@ bounded_settled given more (option ∷ options) range bounded e =
     bounded_settled step.0 more options (All-tail IsOption option options range)
     (bounded_with given step.0 option (All-head IsOption option options range) bounded step.1) step.2
 
-pub bounded_command : (words : List (List ℕ)) (command : Solve) → command_of words ≡ Some command → IfSome command.options.upper (λ bound. pos 0 ≤ℤ bound)
+-- a budget that is given, or 1000
+budget_range : (nodes : Option ℕ) → IfSome nodes (λ count. (1 ≤ count) × (count ≤ most_nodes)) → (1 ≤ unwrap_or nodes 1000) × (unwrap_or nodes 1000 ≤ most_nodes)
+budget_range None range = (omega arith, omega arith)
+budget_range (Some count) range = range
+
+-- the options of a command are in their ranges
+pub record IsInRange (options : Options) : Type 0 where
+  pub upper : IfSome options.upper (λ bound. pos 0 ≤ℤ bound)
+  pub some : 1 ≤ options.nodes
+  pub few : options.nodes ≤ most_nodes
+
+pub bounded_command : (words : List (List ℕ)) (command : Solve) → command_of words ≡ Some command → IsInRange command.options
 bounded_command words command e =
     let spelled = command_spelled words command e in
-    subst (λ (o : Options). IfSome o.upper (λ bound. pos 0 ≤ℤ bound)) (sym spelled.meant)
-    (bounded_settled none_chosen spelled.chosen spelled.options spelled.in_range tt spelled.once)
+    let bounded = bounded_settled none_chosen spelled.chosen spelled.options spelled.in_range (record { upper = tt; nodes = tt }) spelled.once in
+    let budget = budget_range spelled.chosen.nodes bounded.nodes in
+    subst IsInRange (sym spelled.meant) (record { upper = bounded.upper; some = budget.0; few = budget.1 })

@@ -5,9 +5,9 @@ use Rattle.std.proofs.lemmas.Bool.{eqb-true}
 use Rattle.std.proofs.lemmas.List.{drop-map, take-map, take_all, length-map}
 use Rattle.std.proofs.lemmas.Option.{same_Some}
 use Rattle.solve_cli.specs.declared.words.SolveOption.{SolveOption}
-use Rattle.solve_cli.specs.declared.words.SolveOption.TheVariants.{Fixed, Upper}
+use Rattle.solve_cli.specs.declared.words.SolveOption.TheVariants.{Fixed, Upper, Nodes}
 use Rattle.solve_cli.specs.declared.words.Chosen.{Chosen}
-use Rattle.solve_cli.specs.Words.{number_within, most_upper, valued_option_of, first_option_of, words_in, options_of, with_option, settled, none_chosen, chosen_options, settled_options, are_file_names, named, solve_of}
+use Rattle.solve_cli.specs.Words.{number_within, most_upper, most_nodes, valued_option_of, first_option_of, words_in, options_of, with_option, settled, none_chosen, chosen_options, settled_options, are_file_names, named, solve_of}
 
 -- an option in front of what words spell behind it
 abbrev before : SolveOption → List (List ℕ) → Option (List SolveOption)
@@ -20,12 +20,14 @@ pub record Begins (option : SolveOption) (words : List (List ℕ)) : Type 0 wher
 
 -- an option of two words
 two_words : (word next : List ℕ) (option : SolveOption) → valued_option_of word next ≡ Some option → words_in option ≡ 2
-two_words word next option e = by (bytes_eq word (codes "--upper")) (number_within 0 most_upper next) e
+two_words word next option e = by (bytes_eq word (codes "--upper")) (bytes_eq word (codes "--nodes")) (number_within 0 most_upper next) (number_within 1 most_nodes next) e
   where
-    by : (upper : Bool) (bound : Option ℕ) → cond upper (option_map (λ bound. Upper (pos bound)) bound) None ≡ Some option → words_in option ≡ 2
-    by true (Some bound) e = subst (λ o. words_in o ≡ 2) (same_Some (Upper (pos bound)) option e) refl
-    by true None e = absurd cc
-    by false bound e = absurd cc
+    by : (upper nodes : Bool) (bound count : Option ℕ) → cond upper (option_map (λ bound. Upper (pos bound)) bound) (cond nodes (option_map Nodes count) None) ≡ Some option → words_in option ≡ 2
+    by true nodes (Some bound) count e = subst (λ o. words_in o ≡ 2) (same_Some (Upper (pos bound)) option e) refl
+    by true nodes None count e = absurd cc
+    by false true bound (Some count) e = subst (λ o. words_in o ≡ 2) (same_Some (Nodes count) option e) refl
+    by false true bound None e = absurd cc
+    by false false bound count e = absurd cc
 
 one_begins : (word : List ℕ) (fixed : Bool) (option : SolveOption) → cond fixed (Some Fixed) None ≡ Some option
     → (words_in option ≤ 1) × (cond fixed (Some (Fixed ∷ [])) None ≡ before option (word ∷ []))

@@ -7,7 +7,7 @@ use Rattle.solve_cli.specs.declared.words.WordsStop.TheVariants as stops
 use Rattle.solve_cli.specs.Words.{Solve, options}
 
 abbrev pub solve_view : Command → Solve
-solve_view (commands.Solve layout upper model proof) = record { options = options layout upper; model = model; proof = proof }
+solve_view (commands.Solve layout upper nodes model proof) = record { options = options layout upper nodes; model = model; proof = proof }
 
 -- the command that is there, or Words where there is none, unless memory ran out
 abbrev pub GivesCommand : Result Command WordsStop → Option Solve → Type 0

@@ -4,7 +4,7 @@ use Rattle.desk_io.specs.Desk.{fault, appended, AppendsSome, Rose}
 use Rattle.desk_io.specs.declared.desk.Call.TheVariants.{Take, Say}
 use Rattle.solve_cli.specs.declared.status.Status.{Status}
 use Rattle.solve_cli.specs.declared.status.Status.TheVariants.{WriteFault, NoMemory}
-use Rattle.solve_cli.specs.declared.program.Reply.{Reply}
+use Rattle.solve_cli.specs.declared.reply.Reply.{Reply}
 use Rattle.solve_cli.specs.Report.{report_of}
 use Rattle.solve_cli.specs.Answer.{Faults, IsCalm, KeepsFaults}
 

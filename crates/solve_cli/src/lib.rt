@@ -1,8 +1,12 @@
 //! The commands of the program over a desk.
 #![tactic(auto)]
 
+mod brancher;
+mod counts;
 mod program;
+mod reply;
 mod report;
+mod search;
 mod status;
 mod take;
 mod verdict_law;

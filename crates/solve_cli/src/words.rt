@@ -1,5 +1,5 @@
 //! The command that a list of words spells.
-ghost use Rattle.std.specs.Prelude.{◌≡◌, ◌≤◌, true, IfOk, length, map, option_and_then, string_bytes};
+ghost use Rattle.std.specs.Prelude.{◌≡◌, ◌≤◌, true, IfOk, IfSome, length, map, option_and_then, string_bytes};
 ghost use Rattle.std.specs.List.{list_all};
 ghost use Rattle.mps_fields.specs.Decimal.{is_digit as digit, is_digits as digits};
 ghost use Rattle.solve_cli.specs.Words.{is_file_name as named_file, are_file_names as file_names, is_plain_number as plain_number, number_within, valued_option_of, first_option_of, words_in, with_option, settled, options_of, solve_of, none_chosen, command_of};
@@ -14,6 +14,12 @@ const MOST_NAME_BYTES: usize = 255;
 
 /// 2^62, the greatest upper bound that may be handed in.
 const MOST_UPPER: u64 = 4_611_686_018_427_387_904;
+
+/// The greatest budget of nodes.
+const MOST_NODES: u64 = 1_000;
+
+/// The budget of nodes where none is given.
+const DEFAULT_NODES: u32 = 1_000;
 
 /// The name of a file: 1 to 255 bytes that do not begin with `-`.
 #[derive(Debug, Drop)]
@@ -47,6 +53,7 @@ impl FileName {
 pub(crate) enum SolveOption {
     Fixed,
     Upper(i128),
+    Nodes(u32),
 }
 
 /// The options that were read so far.
@@ -54,6 +61,7 @@ pub(crate) enum SolveOption {
 pub(crate) struct Chosen {
     layout: Layout,
     upper: Option<i128>,
+    nodes: Option<u32>,
 }
 
 impl SolveOption {
@@ -63,19 +71,20 @@ impl SolveOption {
     {
         match self {
             SolveOption::Fixed => 1,
-            SolveOption::Upper(_) => 2,
+            SolveOption::Upper(_) | SolveOption::Nodes(_) => 2,
         }
     }
 }
 
 impl Chosen {
-    /// Free form and no upper bound.
+    /// Free form, no upper bound and no budget.
     fn none() -> Chosen
         ensures { result ≡ none_chosen }
     {
         Chosen {
             layout: Layout::Free,
             upper: None,
+            nodes: None,
         }
     }
 
@@ -88,6 +97,7 @@ impl Chosen {
                 Layout::Free => Some(Chosen {
                     layout: Layout::Fixed,
                     upper: self.upper,
+                    nodes: self.nodes,
                 }),
                 Layout::Fixed => None,
             },
@@ -95,6 +105,15 @@ impl Chosen {
                 None => Some(Chosen {
                     layout: self.layout,
                     upper: Some(bound),
+                    nodes: self.nodes,
+                }),
+                Some(_) => None,
+            },
+            SolveOption::Nodes(count) => match self.nodes {
+                None => Some(Chosen {
+                    layout: self.layout,
+                    upper: self.upper,
+                    nodes: Some(count),
                 }),
                 Some(_) => None,
             },
@@ -105,11 +124,12 @@ impl Chosen {
 /// A command.
 #[derive(Debug, Drop)]
 pub enum Command {
-    /// Solves the model that the text in `model` states, in this layout, and with this upper bound for the columns for
-    /// which it gives none. The proof of the answer will go into `proof`.
+    /// Solves the model that the text in `model` states, in this layout, with this upper bound for the columns for which it
+    /// gives none, and with a budget of so many nodes. The proof of the answer will go into `proof`.
     Solve {
         layout: Layout,
         upper: Option<i128>,
+        nodes: u32,
         model: FileName,
         proof: FileName,
     },
@@ -171,7 +191,8 @@ fn is_plain_number(word: &[u8]) -> bool
 
 // The whole number from low to high that a word spells in its shortest decimal digits.
 fn number(word: &str, low: u64, high: u64) -> Option<u64>
-    ensures { result ≡ number_within low high word.now }
+    ensures value { result ≡ number_within low high word.now }
+    ensures range { IfSome result (λ number. number ≤ high) }
 {
     if !is_plain_number(word.as_bytes()) {
         return None;
@@ -194,6 +215,9 @@ fn valued_option(word: &str, value: &str) -> Option<SolveOption>
 {
     if word == "--upper" {
         return Some(SolveOption::Upper(i128::from(number(value, 0, MOST_UPPER)?)));
+    }
+    if word == "--nodes" {
+        return Some(SolveOption::Nodes(number(value, 1, MOST_NODES)? as u32));
     }
     None
 }
@@ -250,6 +274,7 @@ fn read_solve(alloc: Global, words: &[String]) -> Result<Command, WordsStop>
     Ok(Command::Solve {
         layout: chosen.layout,
         upper: chosen.upper,
+        nodes: chosen.nodes.unwrap_or(DEFAULT_NODES),
         model: name(alloc, model)?,
         proof: name(alloc, proof)?,
     })
