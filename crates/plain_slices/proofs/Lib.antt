@@ -1,5 +1,3 @@
-pub mod EndLemmas
-pub mod SliceLemmas
 pub mod ItemLaws
 pub mod UnitLaws
 pub mod NumberLaws

@@ -1,5 +1,3 @@
-pub mod Slices
-pub mod Ends
 pub mod Items
 pub mod Shut
 pub mod Nodes
