@@ -1,9 +1,8 @@
 -- The last dictionary shows its answer.
-use Rattle.std.proofs.Common.{◌≡◌, ◌≢◌, ℕ, zero, suc, ◌+◌, ◌-◌, ◌<◌, ◌≤◌, ◌⊎◌, inl, inr, ℤ, pos, negsuc, neg_ℤ, ◌≤ℤ◌, ◌<ℤ◌, List, [], ◌∷◌, ◌++◌, length, map, get_or, set, refl, sym, ap, ap₂, subst, ◌∙◌, arith, length-append, All}
+use Rattle.std.proofs.Common.{◌≡◌, ◌≢◌, ℕ, zero, suc, ◌+◌, ◌<◌, ◌≤◌, inl, inr, ℤ, pos, negsuc, neg_ℤ, ◌≤ℤ◌, ◌<ℤ◌, List, [], ◌∷◌, ◌++◌, length, map, get_or, refl, sym, ap, ap₂, subst, ◌∙◌, arith, All}
 use Rattle.std.proofs.lemmas.Int.{ints}
-use Rattle.std.proofs.lemmas.List.{length-map, get_or-map, get_or_append_left, get_or-append-add}
-use Rattle.std.proofs.Math.Seq.{get_or-append_seam}
-use Rattle.exact_math.specs.Rational.{ℚ, whole, neg_ℚ, ◌+ℚ◌, ◌-ℚ◌, ◌*ℚ◌, ◌≤ℚ◌, ◌<ℚ◌}
+use Rattle.std.proofs.lemmas.List.{length-map, get_or-map, get_or_append_left}
+use Rattle.exact_math.specs.Rational.{ℚ, whole, neg_ℚ, ◌+ℚ◌, ◌*ℚ◌, ◌≤ℚ◌, ◌<ℚ◌}
 use Rattle.exact_math.specs.RationalLaws.{zero_from_num}
 use Rattle.exact_math.specs.RationalOrder as Order
 use Rattle.exact_math.specs.IntegerOrder.{le_or_lt}
@@ -12,18 +11,18 @@ use Rattle.exact_math.specs.RationalRing.{rationals}
 use Rattle.exact_math.specs.RingSolver.{ring, reads}
 use Rattle.exact_math.specs.RingLaws as Laws
 use Rattle.exact_vectors.specs.Vectors.{dot, negate, zeros}
-use Rattle.exact_vectors.specs.Matrices.{HasWidth, times_vector, combination}
+use Rattle.exact_vectors.specs.Matrices.{HasWidth}
 use Rattle.exact_vectors.specs.DotLaws as Dot
 use Rattle.exact_vectors.specs.MatrixLaws as Matrix
-use Rattle.lp_dict.specs.Dictionaries.{Dictionary, none, one, Solves, entry_at, numbers_from, first_dictionary}
-use Rattle.lp_dict.specs.Systems.{slacks, IsPoint}
-use Rattle.lp_solve.specs.Certificates.{ShowsLeast, ShowsEmpty, IsBounded}
-use Rattle.lp_solve.specs.Rule.{IsNegative, IsPositive, NoneFree, constant_at, form_at}
-use Rattle.lp_solve.specs.Steps.{IsStuck, IsEnd}
-use Rattle.lp_solve.specs.Values.{value_of, constants, vertex, form_multipliers, row_multipliers}
+use Rattle.lp_dict.specs.Dictionaries.{Dictionary, none, one, Solves, entry_at, numbers_from}
+use Rattle.lp_dict.specs.Systems.{slacks}
+use Rattle.lp_solve.specs.Certificates.{ShowsEmpty}
+use Rattle.lp_solve.specs.Rule.{IsNegative, IsPositive, NoneFree, constant_at}
+use Rattle.lp_solve.specs.Steps.{IsStuck}
+use Rattle.lp_solve.specs.Values.{value_of, row_multipliers}
 use Rattle.lp_solve.proofs.CertificateLaws.{certificate}
 use Rattle.lp_solve.proofs.ExchangeLaws.{exchange}
-use Rattle.lp_solve.proofs.ReachedLaws.{IsReached, outside_distinct, row_distinct, basic_bound, outside_bound}
+use Rattle.lp_solve.proofs.ReachedLaws.{IsReached, row_distinct, basic_bound, outside_bound}
 use Rattle.lp_solve.proofs.SolutionLaws.{row_split}
 use Rattle.lp_solve.proofs.StartLaws.{values_at, slacks_at, point_solves, numbers-at, length-numbers}
 use Rattle.lp_solve.proofs.ValueLaws.{value_of-cases}

@@ -1,15 +1,15 @@
 -- Sums over all slacks, and sums over the variables outside: the values beside the variables of a list without repetition add up to the same in both.
-use Rattle.std.proofs.Common.{◌≡◌, ◌≢◌, ℕ, zero, suc, ◌+◌, ◌<◌, ◌≤◌, ◌⊎◌, inl, inr, List, [], ◌∷◌, ◌++◌, length, map, get_or, refl, sym, ap, ap₂, subst, ◌∙◌, arith, Bool, true, false}
+use Rattle.std.proofs.Common.{◌≡◌, ◌≢◌, ℕ, zero, suc, ◌+◌, ◌<◌, ◌≤◌, ◌⊎◌, inl, inr, List, [], ◌∷◌, length, map, get_or, refl, sym, ap, ap₂, subst, ◌∙◌, arith, Bool, true, false}
 use Rattle.std.specs.Prelude.{◌==◌, if◌then◌else◌}
 use Rattle.std.proofs.lemmas.Bool.{eqb-true, eqb-false, eq-eqb}
 use Rattle.std.proofs.lemmas.List.{length-map}
-use Rattle.exact_math.specs.Rational.{ℚ, whole, neg_ℚ, ◌+ℚ◌, ◌*ℚ◌}
+use Rattle.exact_math.specs.Rational.{ℚ, ◌+ℚ◌, ◌*ℚ◌}
 use Rattle.exact_math.specs.RationalRing.{rationals}
 use Rattle.exact_math.specs.RingSolver.{ring, reads}
 use Rattle.exact_math.specs.RingLaws as Laws
-use Rattle.exact_vectors.specs.Vectors.{dot, add, zeros}
+use Rattle.exact_vectors.specs.Vectors.{dot, add}
 use Rattle.exact_vectors.specs.DotLaws as Dot
-use Rattle.lp_dict.specs.Dictionaries.{none, one, numbers_from}
+use Rattle.lp_dict.specs.Dictionaries.{none, numbers_from}
 use Rattle.lp_solve.specs.Values.{value_of}
 use Rattle.lp_solve.proofs.ValueLaws.{lt_or_le, unequal, value_of-same, value_of-other, value_of-cases}
 

@@ -1,5 +1,5 @@
 -- What the loops that read the last dictionary use.
-use Rattle.std.proofs.Common.{◌≡◌, ℕ, zero, suc, ◌+◌, ◌≤◌, List, [], ◌∷◌, ◌++◌, length, map, get_or, refl, sym, ap, ap₂, ◌∙◌, arith, add-one}
+use Rattle.std.proofs.Common.{◌≡◌, ℕ, zero, suc, ◌+◌, ◌≤◌, List, [], ◌∷◌, ◌++◌, length, map, refl, ap, ap₂, ◌∙◌, arith, add-one}
 use Rattle.exact_math.specs.Rational.{ℚ}
 use Rattle.exact_math.specs.RationalRing.{rationals}
 use Rattle.exact_vectors.specs.Matrices.{column}

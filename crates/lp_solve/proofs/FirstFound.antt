@@ -1,7 +1,6 @@
 -- Loops that look for the first variable with a property.
-use Rattle.std.proofs.Common.{◌≡◌, ℕ, zero, suc, ◌+◌, ◌<◌, ◌≤◌, ◌⊎◌, inl, inr, List, [], length, get_or, refl, sym, ap, subst, ◌∙◌, arith, le_trans, below_more, IsTrue, Bool, true, false}
-use Rattle.std.specs.Prelude.{Option, Some, None, MatchOption, ◌↔◌, ⊤}
-use Rattle.lp_solve.specs.Rule.{IsFirst}
+use Rattle.std.proofs.Common.{◌≡◌, ℕ, ◌+◌, ◌<◌, ◌≤◌, ◌⊎◌, inl, inr, List, length, get_or, sym, ap, subst, arith, below_more, IsTrue, true, false}
+use Rattle.std.specs.Prelude.{Option, Some, None, MatchOption, ⊤}
 use Rattle.lp_solve.specs.Steps.{FindsFirst}
 
 -- among the first `n` places, `k` has the first variable with the property

@@ -1,24 +1,24 @@
 -- The last dictionary shows that its vertex is least: where the points are bounded no ray of them leads on.
-use Rattle.std.proofs.Common.{◌≡◌, ◌≢◌, ℕ, zero, suc, ◌+◌, ◌-◌, ◌<◌, ◌≤◌, ◌⊎◌, inl, inr, ℤ, pos, negsuc, neg_ℤ, ◌≤ℤ◌, ◌<ℤ◌, ◌*◌, ◌*ℤ◌, List, [], ◌∷◌, ◌++◌, length, map, get_or, set, refl, sym, ap, ap₂, subst, ◌∙◌, arith, length-append, All}
+use Rattle.std.proofs.Common.{◌≡◌, ◌≢◌, ℕ, zero, suc, ◌+◌, ◌<◌, ◌≤◌, ◌⊎◌, inl, inr, ℤ, pos, negsuc, ◌≤ℤ◌, ◌<ℤ◌, ◌*◌, ◌*ℤ◌, List, [], ◌∷◌, ◌++◌, length, map, get_or, set, refl, sym, ap, ap₂, subst, ◌∙◌, arith, All}
 use Rattle.std.proofs.lemmas.Int.{ints}
-use Rattle.std.proofs.lemmas.List.{length-map, length-set, get_or-map, get_or-set_same, get_or-set_other, get_or_append_left}
+use Rattle.std.proofs.lemmas.List.{length-map, length-set, get_or-map, get_or-set_same, get_or-set_other}
 use Rattle.std.proofs.lemmas.List.Elements.{All-set}
 use Rattle.std.proofs.Math.Seq.{get_or-append_seam}
 use Rattle.exact_math.specs.IntegerRing.{expand, linear}
-use Rattle.exact_math.specs.Rational.{ℚ, whole, frac, neg_ℚ, ◌+ℚ◌, ◌-ℚ◌, ◌*ℚ◌, ◌≤ℚ◌, ◌<ℚ◌}
+use Rattle.exact_math.specs.Rational.{ℚ, whole, neg_ℚ, ◌+ℚ◌, ◌-ℚ◌, ◌*ℚ◌, ◌≤ℚ◌, ◌<ℚ◌}
 use Rattle.exact_math.specs.RationalLaws.{den_pos, frac-self, frac-mul, same_frac, whole-frac}
 use Rattle.exact_math.specs.RationalOrder as Order
 use Rattle.exact_math.specs.RationalRing.{rationals}
-use Rattle.exact_math.specs.RingSolver.{ring, ring_with, reads}
+use Rattle.exact_math.specs.RingSolver.{ring, reads}
 use Rattle.exact_math.specs.RingLaws as Laws
-use Rattle.exact_vectors.specs.Vectors.{dot, negate, zeros}
-use Rattle.exact_vectors.specs.Matrices.{HasWidth, times_vector, column}
+use Rattle.exact_vectors.specs.Vectors.{dot, zeros}
+use Rattle.exact_vectors.specs.Matrices.{HasWidth}
 use Rattle.exact_vectors.specs.DotLaws as Dot
 use Rattle.exact_vectors.specs.MatrixLaws as Matrix
-use Rattle.lp_dict.specs.Dictionaries.{Dictionary, none, one, Solves, entry_at, numbers_from, first_dictionary}
+use Rattle.lp_dict.specs.Dictionaries.{Dictionary, none, one, Solves, entry_at, numbers_from}
 use Rattle.lp_dict.specs.Systems.{slacks, IsPoint}
 use Rattle.lp_solve.specs.Certificates.{ShowsLeast, IsBounded}
-use Rattle.lp_solve.specs.Rule.{IsNegative, Lowers, Limits, NoneFree, NoneBelow, constant_at, form_at}
+use Rattle.lp_solve.specs.Rule.{Lowers, Limits, NoneFree, NoneBelow, constant_at, form_at}
 use Rattle.lp_solve.specs.Steps.{IsEnd}
 use Rattle.lp_solve.specs.Values.{value_of, constants, vertex, form_multipliers}
 use Rattle.lp_solve.proofs.CertificateLaws.{certificate}
@@ -27,7 +27,7 @@ use Rattle.lp_solve.proofs.ExchangeLaws.{exchange}
 use Rattle.lp_solve.proofs.ReachedLaws.{IsReached, outside_distinct, outside_bound}
 use Rattle.lp_solve.proofs.SolutionLaws.{gives, given, point, point_value, outside_given, is_point, given_at, length-point, vertex_gives, vertex_is, zero_size}
 use Rattle.lp_solve.proofs.StartLaws.{values_at, slacks_at, point_solves, numbers-at, length-numbers}
-use Rattle.lp_solve.proofs.ValueLaws.{lt_or_le, value_of-cases}
+use Rattle.lp_solve.proofs.ValueLaws.{value_of-cases}
 
 -- one more is not less
 one_more : (b : ℚ) → ¬ ((b +ℚ one) ≤ℚ b)

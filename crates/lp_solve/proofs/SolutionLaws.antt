@@ -1,8 +1,8 @@
 -- The points of a reached dictionary: any values of the variables outside give one solution.
-use Rattle.std.proofs.Common.{◌≡◌, ◌≢◌, ℕ, zero, suc, ◌+◌, ◌-◌, ◌<◌, ◌≤◌, ◌⊎◌, inl, inr, pos, List, [], ◌∷◌, ◌++◌, length, map, get_or, set, take, drop, refl, sym, ap, ap₂, subst, ◌∙◌, arith, length-append, All}
+use Rattle.std.proofs.Common.{◌≡◌, ℕ, suc, ◌+◌, ◌-◌, ◌<◌, ◌≤◌, inl, inr, List, [], ◌∷◌, ◌++◌, length, map, get_or, take, drop, refl, sym, ap, ap₂, subst, ◌∙◌, arith, length-append, All}
 use Rattle.std.specs.List.{AllZip}
-use Rattle.std.proofs.lemmas.List.{length-map, length-set, map-append, get_or-map, get_or_append_left, get_or-append_right, set-append_left, take_more, take_all, length-take-le, take-append-drop, get_or-take}
-use Rattle.exact_math.specs.Rational.{ℚ, whole, neg_ℚ, ◌+ℚ◌, ◌-ℚ◌, ◌*ℚ◌, ◌≤ℚ◌}
+use Rattle.std.proofs.lemmas.List.{length-map, map-append, get_or-map, get_or_append_left, get_or-append_right, take_more, take_all, length-take-le, take-append-drop, get_or-take}
+use Rattle.exact_math.specs.Rational.{ℚ, ◌+ℚ◌, ◌-ℚ◌, ◌*ℚ◌, ◌≤ℚ◌}
 use Rattle.exact_math.specs.RationalOrder as Order
 use Rattle.exact_math.specs.RationalRing.{rationals}
 use Rattle.exact_math.specs.RingSolver.{ring, reads}
@@ -11,12 +11,12 @@ use Rattle.exact_vectors.specs.Vectors.{dot, zeros}
 use Rattle.exact_vectors.specs.Matrices.{HasWidth, times_vector, column}
 use Rattle.exact_vectors.specs.DotLaws as Dot
 use Rattle.exact_vectors.specs.MatrixLaws as Matrix
-use Rattle.lp_dict.specs.Dictionaries.{Dictionary, none, one, Solves, entry_at, numbers_from, first_dictionary}
+use Rattle.lp_dict.specs.Dictionaries.{Dictionary, none, one, Solves, entry_at, numbers_from}
 use Rattle.lp_dict.specs.Systems.{slacks, IsPoint}
 use Rattle.lp_solve.specs.Values.{value_of, constants, vertex}
 use Rattle.lp_solve.proofs.ExchangeLaws.{IsDistinct, same_items, value_at}
 use Rattle.lp_solve.proofs.ReachedLaws.{IsReached, reached_distinct}
-use Rattle.lp_solve.proofs.StartLaws.{parts, numbers-at, length-numbers, solution_is, length-slacks}
+use Rattle.lp_solve.proofs.StartLaws.{parts, numbers-at, length-numbers, solution_is}
 use Rattle.lp_solve.proofs.ValueLaws.{lt_or_le, value_of-cases, value_of-zeros, value_of-more}
 
 -- values for each variable of a list

@@ -1,10 +1,9 @@
 -- The answers of a linear program.
-use Rattle.std.proofs.Common.{◌≡◌, ℕ, zero, suc, ◌+◌, ◌*◌, ◌^◌, ◌<◌, ◌≤◌, ℤ, List, [], ◌∷◌, length, map, get_or, refl, sym, ap, subst, ◌∙◌, arith}
+use Rattle.std.proofs.Common.{◌≡◌, ℕ, ◌+◌, ◌*◌, ◌^◌, ◌<◌, ◌≤◌, ℤ, List, [], ◌∷◌, length, get_or, sym, ap, subst, ◌∙◌, arith}
 use Rattle.std.specs.Prelude.{◌↔◌}
 use Rattle.std.proofs.lemmas.List.{length-map}
-use Rattle.exact_math.specs.Rational.{ℚ, whole, ◌≤ℚ◌}
+use Rattle.exact_math.specs.Rational.{ℚ, whole}
 use Rattle.exact_math.specs.RationalRing.{rationals}
-use Rattle.exact_vectors.specs.Vectors.{dot}
 use Rattle.exact_vectors.specs.Matrices.{HasWidth, rows_of}
 use Rattle.exact_vectors.specs.FlatMatrixLaws.{HasWidth-rows_of, length-rows_of}
 use Rattle.exact_vectors.specs.MatrixLaws as Matrix
@@ -12,7 +11,7 @@ use Rattle.spaces.specs.Tables.{Table}
 use Rattle.lp_dict.specs.Dictionaries.{Dictionary, first_dictionary}
 use Rattle.lp_dict.specs.Sizes.{MeetsCondition}
 use Rattle.lp_dict.specs.Systems.{IsPoint, left_sides, whole_rows, wholes}
-use Rattle.lp_solve.specs.Certificates.{ShowsLeast, IsBounded}
+use Rattle.lp_solve.specs.Certificates.{IsBounded}
 use Rattle.lp_solve.specs.Outcomes.{SolvedIs, SaysEmpty}
 use Rattle.lp_solve.specs.Rule.{AreLegal, after, form_at}
 use Rattle.lp_solve.specs.Steps.{IsStuck, IsEnd}

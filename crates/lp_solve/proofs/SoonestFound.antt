@@ -1,15 +1,15 @@
 -- The loop that looks for the slack that reaches 0 soonest.
-use Rattle.std.proofs.Common.{◌≡◌, ◌≢◌, ℕ, zero, suc, ◌+◌, ◌<◌, ◌≤◌, ℤ, pos, ◌<ℤ◌, ◌⊎◌, inl, inr, List, length, get_or, refl, sym, ap, subst, ◌∙◌, arith, below_more}
+use Rattle.std.proofs.Common.{◌≡◌, ◌≢◌, ℕ, ◌+◌, ◌<◌, ◌≤◌, pos, inl, inr, length, sym, ap, subst, ◌∙◌, arith, below_more}
 use Rattle.std.proofs.lemmas.Int.{ints}
 use Rattle.std.specs.Prelude.{Option, Some, None, MatchOption, ⊤}
-use Rattle.exact_math.specs.Rational.{ℚ, whole, neg_ℚ, ◌≤ℚ◌}
+use Rattle.exact_math.specs.Rational.{ℚ, neg_ℚ, ◌≤ℚ◌}
 use Rattle.exact_math.specs.RationalLaws.{num_zero, zero_from_num}
 use Rattle.exact_math.specs.RationalOrder as Order
 use Rattle.exact_math.specs.RationalRing.{rationals}
 use Rattle.exact_math.specs.RingLaws as Laws
 use Rattle.lp_dict.specs.Dictionaries.{Dictionary}
 use Rattle.lp_solve.specs.Rule.{IsFirst, Limits, IsSoonest, time_at, basic_at, IsNegative}
-use Rattle.lp_solve.specs.Steps.{Sooner, FindsSoonest}
+use Rattle.lp_solve.specs.Steps.{Sooner}
 use Rattle.lp_solve.specs.declared.search.Limit.{Limit}
 
 -- minus a number below 0 is not 0

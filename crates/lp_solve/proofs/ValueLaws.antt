@@ -1,12 +1,12 @@
 -- Values of variables by a list of them.
-use Rattle.std.proofs.Common.{◌≡◌, ◌≢◌, ℕ, zero, suc, ◌+◌, ◌<◌, ◌≤◌, ◌⊎◌, inl, inr, List, [], ◌∷◌, ◌++◌, length, map, get_or, drop, refl, sym, ap, ap₂, subst, ◌∙◌, arith, add-one, drop-cons, Bool, true, false}
+use Rattle.std.proofs.Common.{◌≡◌, ◌≢◌, ℕ, zero, suc, ◌+◌, ◌<◌, ◌≤◌, ◌⊎◌, inl, inr, List, [], ◌∷◌, ◌++◌, length, get_or, drop, refl, sym, ap, subst, arith, add-one, drop-cons, Bool, true, false}
 use Rattle.std.specs.Prelude.{◌==◌, if◌then◌else◌}
 use Rattle.std.proofs.lemmas.Bool.{eqb-true, eq-eqb}
-use Rattle.exact_math.specs.Rational.{ℚ, whole, neg_ℚ}
+use Rattle.exact_math.specs.Rational.{ℚ, neg_ℚ}
 use Rattle.exact_math.specs.RationalRing.{rationals}
 use Rattle.exact_math.specs.RingLaws as Laws
 use Rattle.exact_vectors.specs.Vectors.{negate, zeros}
-use Rattle.lp_dict.specs.Dictionaries.{none, one}
+use Rattle.lp_dict.specs.Dictionaries.{none}
 use Rattle.lp_solve.specs.Values.{value_of}
 
 -- one number is below another, or at least the other

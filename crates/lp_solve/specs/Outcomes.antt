@@ -1,5 +1,5 @@
 -- What the answers of a linear program say.
-use Rattle.std.specs.Prelude.{◌≡◌, ℕ, ℤ, List, length, ⊤, ◌↔◌}
+use Rattle.std.specs.Prelude.{◌≡◌, List, length, ⊤}
 use Rattle.exact_math.specs.Rational.{ℚ, ◌≤ℚ◌}
 use Rattle.exact_math.specs.RationalRing.{rationals}
 use Rattle.exact_vectors.specs.Vectors.{dot}

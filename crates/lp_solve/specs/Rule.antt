@@ -1,5 +1,5 @@
 -- Bland's rule for pivots (Bland, New finite pivoting rules for the simplex method, 1977), begun at the dictionary in which each slack is basic. "First" is by the number of the variable. The variables below the number of columns are the coordinates, the others the slacks.
-use Rattle.std.specs.Prelude.{◌≡◌, ◌≢◌, ℕ, ◌+◌, ◌<◌, ◌≤◌, ℤ, pos, ◌<ℤ◌, List, [], ◌∷◌, length, get_or, ◌⊎◌, ⊤}
+use Rattle.std.specs.Prelude.{◌≢◌, ℕ, ◌<◌, ◌≤◌, pos, ◌<ℤ◌, List, [], ◌∷◌, length, get_or, ◌⊎◌, ⊤}
 use Rattle.exact_math.specs.Rational.{ℚ, neg_ℚ, ◌/ℚ◌, ◌≤ℚ◌}
 use Rattle.frac128.specs.Range.{InRange}
 use Rattle.lp_dict.specs.Dictionaries.{Dictionary, entry_at}

@@ -1,5 +1,5 @@
 -- What the search for the next pivot answers.
-use Rattle.std.specs.Prelude.{◌≡◌, ℕ, ◌+◌, ◌<◌, ◌≤◌, List, length, get_or, ◌⊎◌, Option, MatchOption}
+use Rattle.std.specs.Prelude.{◌≡◌, ℕ, ◌<◌, ◌≤◌, List, length, ◌⊎◌, Option, MatchOption}
 use Rattle.lp_dict.specs.Dictionaries.{Dictionary}
 use Rattle.lp_solve.specs.Rule.{IsFirst, NoneFree, NoneBelow, IsNext, IsBelow, Raises, Lowers, Limits, WideTime, IsSoonest, basic_at}
 use Rattle.exact_math.specs.Rational.{ℚ, ◌≤ℚ◌}

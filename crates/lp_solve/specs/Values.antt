@@ -1,10 +1,10 @@
 -- Values of variables by a list of them.
 use Rattle.std.specs.Prelude.{ℕ, List, [], ◌∷◌, ◌==◌, if◌then◌else◌, map, get_or, length}
-use Rattle.exact_math.specs.Rational.{ℚ, neg_ℚ}
+use Rattle.exact_math.specs.Rational.{ℚ}
 use Rattle.exact_math.specs.RationalRing.{rationals}
 use Rattle.exact_vectors.specs.Vectors.{negate}
 use Rattle.exact_vectors.specs.Matrices.{column}
-use Rattle.lp_dict.specs.Dictionaries.{Dictionary, none, one, numbers_from, entry_at}
+use Rattle.lp_dict.specs.Dictionaries.{Dictionary, none, one, numbers_from}
 
 -- the value that stands beside the variable `v`, and 0 where the list has not that variable
 abbrev pub value_of : List ℕ → List ℚ → ℕ → ℚ

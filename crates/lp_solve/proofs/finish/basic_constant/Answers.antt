@@ -1,4 +1,4 @@
-use Rattle.std.proofs.Common.{◌≡◌, ◌≢◌, [], ◌+◌, ◌<◌, ◌≤◌, ◌∙◌, sym, ap, arith, length, get_or}
+use Rattle.std.proofs.Common.{◌≢◌, [], ◌<◌, ◌≤◌, ◌∙◌, sym, ap, arith, length, get_or}
 use Rattle.exact_math.specs.RationalRing.{rationals}
 use Rattle.exact_vectors.specs.MatrixLaws.{column-at}
 use Rattle.lp_dict.specs.Dictionaries.{none}

@@ -1,8 +1,8 @@
-use Rattle.std.proofs.Common.{◌≡◌, ◌+◌, ◌≤◌, [], ◌∷◌, ◌∙◌, ap, arith, length, get_or}
+use Rattle.std.proofs.Common.{◌+◌, ◌≤◌, [], ◌∷◌, ap, arith, length, get_or}
 use Rattle.exact_math.specs.RationalRing.{rationals}
 use Rattle.exact_vectors.specs.Vectors.{negate}
 use Rattle.lp_dict.specs.Dictionaries.{one}
-use Rattle.lp_solve.specs.Values.{value_of, constants}
+use Rattle.lp_solve.specs.Values.{value_of}
 use Rattle.lp_solve.proofs.FinishSteps.{value_next, values_all}
 use Rattle.lp_solve.proofs.finish.multipliers_of_row.Goals as goal
 

@@ -1,5 +1,4 @@
-use Rattle.std.proofs.Common.{◌≡◌, ◌≢◌, [], ◌+◌, ◌<◌, ◌≤◌, ◌∙◌, sym, ap, arith, length, get_or}
-use Rattle.lp_dict.specs.Dictionaries.{none}
+use Rattle.std.proofs.Common.{◌≢◌, [], ◌<◌, ◌≤◌, ◌∙◌, sym, arith, length, get_or}
 use Rattle.lp_solve.proofs.ValueLaws.{value_found, value_passed, value_none}
 use Rattle.lp_solve.proofs.finish.outside_entry.Goals as goal
 

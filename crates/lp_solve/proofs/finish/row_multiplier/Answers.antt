@@ -1,4 +1,4 @@
-use Rattle.std.proofs.Common.{◌≡◌, ◌≢◌, [], ◌∙◌, sym, ap, get_or}
+use Rattle.std.proofs.Common.{◌≢◌, [], ◌∙◌, sym, ap, get_or}
 use Rattle.exact_math.specs.Rational.{neg_ℚ}
 use Rattle.exact_math.specs.RationalRing.{rationals}
 use Rattle.exact_vectors.specs.Vectors.{negate}

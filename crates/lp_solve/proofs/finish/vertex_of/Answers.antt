@@ -1,7 +1,4 @@
-use Rattle.std.proofs.Common.{◌≡◌, ◌+◌, ◌≤◌, [], ◌∷◌, ◌∙◌, ap, arith, length, get_or}
-use Rattle.exact_math.specs.RationalRing.{rationals}
-use Rattle.exact_vectors.specs.Vectors.{negate}
-use Rattle.lp_dict.specs.Dictionaries.{one}
+use Rattle.std.proofs.Common.{◌≡◌, ◌+◌, ◌≤◌, arith, length}
 use Rattle.lp_solve.specs.Values.{value_of, constants}
 use Rattle.lp_solve.proofs.FinishSteps.{value_next, values_all}
 use Rattle.lp_solve.proofs.finish.vertex_of.Goals as goal

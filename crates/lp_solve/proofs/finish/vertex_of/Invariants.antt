@@ -1,7 +1,5 @@
-use Rattle.std.proofs.Common.{◌≡◌, [], ◌∷◌, map, length, get_or}
-use Rattle.exact_math.specs.RationalRing.{rationals}
-use Rattle.exact_vectors.specs.Vectors.{negate}
-use Rattle.lp_dict.specs.Dictionaries.{one, numbers_from}
+use Rattle.std.proofs.Common.{◌≡◌, map}
+use Rattle.lp_dict.specs.Dictionaries.{numbers_from}
 use Rattle.lp_solve.specs.Values.{value_of, constants}
 use Rattle.lp_solve.proofs.finish.vertex_of.Given as goal
 

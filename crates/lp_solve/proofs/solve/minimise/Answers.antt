@@ -1,11 +1,11 @@
-use Rattle.std.proofs.Common.{◌≡◌, ◌+◌, ◌<◌, ◌≤◌, refl, sym, ap, subst, ◌∙◌, arith, length, []}
+use Rattle.std.proofs.Common.{refl, sym, subst, ◌∙◌, arith, length, []}
 use Rattle.std.proofs.lemmas.Result.{IfOk-from_err, err_from_is_err_and}
 use Rattle.lp_dict.specs.Systems.{left_sides, wholes}
 use Rattle.lp_solve.specs.Endings.{EndingIs}
 use Rattle.lp_solve.specs.Outcomes.{SolvedIs}
 use Rattle.lp_solve.specs.Rule.{AreLegal, NextIsWide, IsDue, after}
 use Rattle.lp_solve.specs.declared.solve.Ending.TheVariants.{Stuck, Optimal, Wide, Many}
-use Rattle.lp_solve.proofs.SolveSteps.{first, reached_from, basic_count, outside_count, row_width, small_ok, solved_empty, solved_least, says_empty}
+use Rattle.lp_solve.proofs.SolveSteps.{reached_from, basic_count, outside_count, row_width, small_ok, solved_empty, solved_least, says_empty}
 use Rattle.lp_solve.proofs.solve.minimise.Goals as goal
 
 pub of-requires : goal.of-requires

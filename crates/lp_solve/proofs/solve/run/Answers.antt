@@ -1,9 +1,9 @@
-use Rattle.std.proofs.Common.{◌≡◌, ℕ, ◌+◌, ◌<◌, inl, inr, [], ◌∷◌, ◌++◌, length, get_or, sym, ap, subst, ◌∙◌, arith, length-append}
+use Rattle.std.proofs.Common.{◌≡◌, ℕ, ◌+◌, inl, inr, [], ◌∷◌, length, get_or, sym, ap, subst, ◌∙◌, arith, length-append}
 use Rattle.std.proofs.lemmas.List.{length-set}
 use Rattle.std.proofs.lemmas.Result.{IfOk-from_err}
 use Rattle.lp_dict.specs.Dictionaries.{Dictionary}
 use Rattle.lp_dict.specs.Pivots.{pivoted}
-use Rattle.lp_solve.specs.Rule.{AreLegal, IsNext, NextIsWide, WideTime, after}
+use Rattle.lp_solve.specs.Rule.{AreLegal, IsNext, NextIsWide, after}
 use Rattle.lp_solve.proofs.ReachedLaws.{next_can, after_more, legal_more}
 use Rattle.lp_solve.proofs.RunSteps.{failed, made, ending_is}
 use Rattle.lp_solve.proofs.solve.run.Goals as goal
