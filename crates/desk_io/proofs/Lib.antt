@@ -1,4 +1,1 @@
-pub mod Appended
-pub mod Faults
 pub mod Outcomes
-pub mod Taken

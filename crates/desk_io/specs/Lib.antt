@@ -1,5 +1,10 @@
+pub mod AppendLaws
+pub mod Channels
 pub mod Counts
 pub mod Desk
+pub mod FaultLaws
 pub mod Memory
 pub mod Names
 pub mod Sure
+pub mod TakeLaws
+pub mod Writing

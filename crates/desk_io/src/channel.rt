@@ -1,8 +1,9 @@
 //! Files that are read, or written, in turn: one is open, and each goes on where it stopped.
-ghost use Rattle.std.specs.Prelude.{◌≤◌, ◌<◌, length, IfOk, IfSome};
+ghost use Rattle.std.specs.Prelude.{◌≡◌, ◌≤◌, ◌<◌, ◌+◌, ◌==◌, if◌then◌else◌, max, length, Some, None, IfOk, IfSome, OnOk, OnErr};
 
 use crate::Failed;
 use crate::short_name::{ShortName, short_name, spells};
+use crate::transfer::{read_piece, write_front};
 use std::fs::OpenOptions;
 use std::io::{Read, Seek, SeekFrom, Write};
 use std::rt::Files;
@@ -28,6 +29,8 @@ pub(crate) struct Channel<F> {
 }
 
 impl<F: Read + Write + Seek + Drop> Channel<F> {
+    ghost use Rattle.desk_io.specs.Channels.{HoldsName, KeepsNames, GotAll};
+
     pub(crate) fn new() -> Channel<F> {
         let unused = Place {
             name: ShortName::EMPTY,
@@ -49,16 +52,17 @@ impl<F: Read + Write + Seek + Drop> Channel<F> {
         buf: &mut [u8],
     ) -> Result<usize, Failed>
         requires { length name.now ≤ 255 }
-        ensures { IfOk result (λ n. n ≤ length buf.new) }
+        ensures count { IfOk result (λ n. n ≤ length buf.new) }
+        ensures buffer { OnErr result (buf.new ≡ buf.old) }
+        ensures place { OnOk result (HoldsName self.new.places self.new.current name.now) }
+        ensures names { KeepsNames self.old.used self.old.places self.new.places }
     {
         let place = self.place_of(name)?;
         let mut file = match self.lift(place) {
             Some(file) => file,
             None => open_to_read(rt, name, self.places[place].at)?,
         };
-        let Ok(n) = file.read(buf) else {
-            return Err(Failed);
-        };
+        let n = read_piece(&mut file, buf)?;
         self.lay_down(place, file, n);
         Ok(n)
     }
@@ -71,6 +75,9 @@ impl<F: Read + Write + Seek + Drop> Channel<F> {
         bytes: &[u8],
     ) -> Result<(), Failed>
         requires { length name.now ≤ 255 }
+        ensures all { OnOk result (GotAll F.contents bytes.now self.new.open) }
+        ensures place { OnOk result (HoldsName self.new.places self.new.current name.now) }
+        ensures names { KeepsNames self.old.used self.old.places self.new.places }
     {
         let place = self.place_of(name)?;
         let started = place < self.used;
@@ -86,15 +93,30 @@ impl<F: Read + Write + Seek + Drop> Channel<F> {
         Ok(())
     }
 
-    // Where the name stands, or goes once its file is open, if there is room for one more.
-    fn place_of(&mut self, name: &str) -> Result<usize, Failed>
-        requires { length name.now ≤ 255 }
-        ensures { IfOk result (λ place. place < 8) }
+    // Where the name stands, if it is remembered.
+    fn find(&self, name: &str) -> Option<usize>
+        ensures { IfSome result (λ place. (place < self.now.used) × HoldsName self.now.places place name.now) }
     {
         for place in 0..self.used {
             if spells(&self.places[place].name, name) {
-                return Ok(place);
+                return Some(place);
             }
+        }
+        None
+    }
+
+    // Where the name stands, or goes once its file is open, if there is room for one more.
+    fn place_of(&mut self, name: &str) -> Result<usize, Failed>
+        requires { length name.now ≤ 255 }
+        ensures in_range { IfOk result (λ place. place < 8) }
+        ensures holds { IfOk result (λ place. HoldsName self.new.places place name.now) }
+        ensures names { KeepsNames self.old.used self.old.places self.new.places }
+        ensures used { self.new.used ≡ self.old.used }
+        ensures current { self.new.current ≡ self.old.current }
+        ensures open { self.new.open ≡ self.old.open }
+    {
+        if let Some(place) = self.find(name) {
+            return Ok(place);
         }
         if self.used == PLACES {
             return Err(Failed);
@@ -108,7 +130,12 @@ impl<F: Read + Write + Seek + Drop> Channel<F> {
     }
 
     // The open file, if it is the one at that place. Another one is closed.
-    fn lift(&mut self, place: usize) -> Option<F> {
+    fn lift(&mut self, place: usize) -> Option<F>
+        ensures file { result ≡ (if self.old.current == place then self.old.open else None) }
+        ensures open { self.new.open ≡ None }
+        ensures places { self.new.places ≡ self.old.places }
+        ensures used { self.new.used ≡ self.old.used }
+    {
         let open = self.open.take();
         if self.current == place { open } else { None }
     }
@@ -116,6 +143,10 @@ impl<F: Read + Write + Seek + Drop> Channel<F> {
     // Keeps the file open, so many bytes further on.
     fn lay_down(&mut self, place: usize, file: F, moved: usize)
         requires { place < 8 }
+        ensures open { self.new.open ≡ Some file }
+        ensures current { self.new.current ≡ place }
+        ensures used { self.new.used ≡ max self.old.used (place + 1) }
+        ensures names { KeepsNames 8 self.old.places self.new.places }
     {
         self.places[place].at = self.places[place].at.saturating_add(moved as u64);
         self.used = self.used.max(place + 1);
@@ -151,19 +182,4 @@ fn move_to<F: Seek + Drop>(mut file: F, at: u64) -> Result<F, Failed> {
         }
     }
     Ok(file)
-}
-
-/// Writes bytes from the front on, and answers how many were written before the first error.
-/// A write that takes nothing is one.
-pub(crate) fn write_front<W: Write>(out: &mut W, bytes: &[u8]) -> usize
-    ensures { result ≤ length bytes.now }
-{
-    let mut done = 0;
-    while done < bytes.len() {
-        match out.write(&bytes[done..]) {
-            Ok(0) | Err(_) => return done,
-            Ok(n) => done += n,
-        }
-    }
-    done
 }

@@ -5,6 +5,7 @@ ghost use Rattle.desk_io.specs.declared.desk.Call.TheVariants.{Take, Put, Say};
 ghost use Rattle.desk_io.specs.declared.desk.DeskStop.TheVariants.{NoMemory, Failed};
 ghost use Rattle.desk_io.specs.Desk.{Fault, fault, TakesFrom, appended, AppendsSome, SameButAt, Same, HasCause, IsKept};
 
+use sequence::NoMemory;
 use std::alloc::{AllocError, AllocFailed};
 
 /// The device behind the desk failed. The desk's count of faults tells the same.
@@ -41,22 +42,6 @@ impl<T: Drop> From<AllocFailed<T>> for DeskStop {
 
     fn from(_: AllocFailed<T>) -> Self {
         DeskStop::NoMemory
-    }
-}
-
-/// No memory was left.
-#[derive(Clone, Copy, Debug, Drop, PartialEq, Eq)]
-pub struct NoMemory;
-
-impl From<AllocError> for NoMemory {
-    fn from(_: AllocError) -> Self {
-        NoMemory
-    }
-}
-
-impl<T: Drop> From<AllocFailed<T>> for NoMemory {
-    fn from(_: AllocFailed<T>) -> Self {
-        NoMemory
     }
 }
 
@@ -99,10 +84,11 @@ pub trait Desk {
     ghost fault_at: { Self → Option Fault };
 
     /// Takes the next bytes of an input into the front of the buffer, and answers how many.
-    /// Where the buffer has room, 0 tells that the input has ended.
+    /// Where the buffer has room, 0 tells that the input has ended. After an error the buffer is as it was.
     fn take(&mut self, name: &str, buf: &mut [u8]) -> Result<usize, Failed>
         requires { length name.now ≤ 255 }
         ensures count { IfOk result (λ n. n ≤ length buf.new) }
+        ensures buffer { OnErr result (buf.new ≡ buf.old) }
         ensures taken { IfOk result (λ n. ForSome (left self.old name.now) (TakesFrom buf.new n)) }
         ensures rest { IfOk result (λ n. left self.new name.now ≡ option_map (drop n) (left self.old name.now)) }
         ensures none_taken { OnErr result (left self.new name.now ≡ left self.old name.now) }

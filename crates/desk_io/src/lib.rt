@@ -8,9 +8,10 @@ mod memory;
 mod real;
 mod short_name;
 mod sure;
+mod transfer;
 mod unread;
 
-pub use desk::{Call, Desk, DeskStop, Failed, NoMemory};
+pub use desk::{Call, Desk, DeskStop, Failed};
 pub use memory::MemDesk;
 pub use real::RealDesk;
 pub use sure::SureDesk;

@@ -7,7 +7,8 @@ ghost use Rattle.desk_io.specs.Desk.{Fault, fault, TakesFrom, appended, AppendsS
 
 use crate::fault::Faults;
 use crate::unread::Unread;
-use crate::{Call, Desk, DeskStop, Failed, NoMemory};
+use crate::{Call, Desk, DeskStop, Failed};
+use sequence::NoMemory;
 use std::alloc::{AllocError, Global};
 use std::collections::BTreeMap;
 
@@ -134,6 +135,7 @@ impl MemDesk {
     // Takes what the buffer has room for, where there is an input of that name.
     fn take_left(&mut self, name: &str, buf: &mut [u8]) -> Option<usize>
         ensures missing { is_some result ≡ is_some (input_of self.old name.now) }
+        ensures buffer { IfNone result (buf.new ≡ buf.old) }
         ensures full { IfSome result (λ n. ForSome (input_of self.old name.now) (λ left. n ≡ min (length buf.new) (length left))) }
         ensures taken { IfSome result (λ n. ForSome (input_of self.old name.now) (λ left. take n buf.new ≡ take n left)) }
         ensures rest { IfSome result (λ n. input_of self.new name.now ≡ option_map (drop n) (input_of self.old name.now)) }
@@ -189,6 +191,7 @@ impl Desk for MemDesk {
         requires { length name.now ≤ 255 }
         ensures failed { IsErr result ↔ (FailsNext self.old ⊎ IsNone (input_of self.old name.now)) }
         ensures count { IfOk result (λ n. n ≤ length buf.new) }
+        ensures buffer { OnErr result (buf.new ≡ buf.old) }
         ensures full { IfOk result (λ n. ForSome (input_of self.old name.now) (λ left. n ≡ min (length buf.new) (length left))) }
         ensures taken { IfOk result (λ n. ForSome (input_of self.old name.now) (TakesFrom buf.new n)) }
         ensures rest { IfOk result (λ n. input_of self.new name.now ≡ option_map (drop n) (input_of self.old name.now)) }

@@ -1,11 +1,11 @@
 //! The desk of a program: files by name, and the standard output.
 ghost use Rattle.std.specs.Prelude.{◌≡◌, List, ◌≤◌, ◌-◌, ◌^◌, ℕ, None};
 
-use crate::channel::{Channel, write_front};
+use crate::channel::Channel;
 use crate::fault::Faults;
+use crate::transfer::write_through;
 use crate::{Call, Desk, DeskStop, Failed};
 use std::io;
-use std::io::Write;
 use std::rt::Files;
 
 /// A desk over real files and the standard output.
@@ -76,11 +76,12 @@ impl<R: Files + Print + Drop> Desk for RealDesk<R> {
 
     /// The standard output is flushed, so what was said stands at `Ok`.
     fn say(&mut self, bytes: &[u8]) -> Result<(), DeskStop> {
-        let mut out = io::writer(&self.rt);
-        if write_front(&mut out, bytes) < bytes.len() || out.flush().is_err() {
-            self.faults.record(Call::Say, "");
-            return Err(DeskStop::Failed);
+        match write_through(&mut io::writer(&self.rt), bytes) {
+            Ok(()) => Ok(()),
+            Err(_) => {
+                self.faults.record(Call::Say, "");
+                Err(DeskStop::Failed)
+            }
         }
-        Ok(())
     }
 }

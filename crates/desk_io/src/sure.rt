@@ -1,11 +1,12 @@
 //! A desk in memory that never fails.
-ghost use Rattle.std.specs.Prelude.{◌≡◌, ◌≤◌, ℕ, List, [], ◌++◌, Option, Some, length, drop, IfOk, OnOk, OnErr, IsOk, IsErr, IsErrOf, IsSome, IsTrue, ◌↔◌};
+ghost use Rattle.std.specs.Prelude.{◌≡◌, ◌≤◌, ℕ, List, [], ◌++◌, Option, Some, length, drop, min, IfOk, OnOk, OnErr, IsOk, IsErr, IsErrOf, IsSome, IsTrue, ◌↔◌};
 ghost use Rattle.std.specs.Option.{option_map, ForSome};
 ghost use Rattle.desk_io.specs.declared.desk.Call.TheVariants.{Take, Put, Say};
 ghost use Rattle.desk_io.specs.Memory.{failing_calls};
 ghost use Rattle.desk_io.specs.Desk.{Fault, fault, TakesFrom, appended, AppendsSome, SameButAt, Same, HasCause, IsKept};
 
-use crate::{Desk, DeskStop, Failed, MemDesk, NoMemory};
+use crate::{Desk, DeskStop, Failed, MemDesk};
+use sequence::NoMemory;
 use std::alloc::Global;
 
 /// A desk whose inputs and outputs are in memory, and of which no call fails: a put or a say may want memory, and where a
@@ -81,6 +82,8 @@ impl Desk for SureDesk {
         requires { length name.now ≤ 255 }
         ensures sure { IsOk result }
         ensures count { IfOk result (λ n. n ≤ length buf.new) }
+        ensures buffer { OnErr result (buf.new ≡ buf.old) }
+        ensures full { IfOk result (λ n. n ≡ min (length buf.new) (length (input_of self.old name.now))) }
         ensures taken { IfOk result (λ n. ForSome (told_input self.old name.now) (TakesFrom buf.new n)) }
         ensures rest { IfOk result (λ n. told_input self.new name.now ≡ option_map (drop n) (told_input self.old name.now)) }
         ensures none_taken { OnErr result (told_input self.new name.now ≡ told_input self.old name.now) }

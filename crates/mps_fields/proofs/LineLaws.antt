@@ -1,28 +1,9 @@
 -- The first line of a text stands at its front.
-use Rattle.std.proofs.Common.{◌≡◌, ℕ, suc, ◌+◌, ◌<◌, Bool, true, false, cond, not, eqb, ltb, List, [], ◌∷◌, length, take, drop, map, Some, None, refl, sym, ap, ◌∙◌, arith}
-use Rattle.std.specs.Prelude.{position}
+use Rattle.std.proofs.Common.{◌≡◌, ℕ, ◌+◌, ◌<◌, true, false, cond, not, eqb, List, [], ◌∷◌, length, take, drop, map, refl, sym, ap, ◌∙◌, arith}
 use Rattle.std.specs.List.{position_or_len}
-use Rattle.std.proofs.lemmas.List.Sums.{prefix_len-le-length}
 use Rattle.std.proofs.lemmas.List.{nil_from_length}
-use Rattle.std.proofs.lemmas.Option.{cond_some, none-some}
 use Rattle.mps_fields.specs.Lines.{pieces_of, onto_first, lines_of, without_return, numbered}
-use Rattle.mps_fields.proofs.Booleans.{either}
-
--- one more on either side
-one_more : (n : ℕ) → 1 + n ≡ suc n
-one_more n = omega arith
-
--- the place that `position` finds
-pub place_some : {X : Type 0} (p : X → Bool) (xs : List X) (i : ℕ) → position p xs ≡ Some i → i ≡ position_or_len p xs
-place_some p xs i e = sym (cond_some _ _ _ e).1
-
--- where it finds none, the whole list is passed
-pub place_none : {X : Type 0} (p : X → Bool) (xs : List X) → position p xs ≡ None → length xs ≡ position_or_len p xs
-place_none p xs e =
-    let end : ℕ = position_or_len p xs in
-    either (ltb end (length xs))
-    (λ t. absurd (none-some end (sym e ∙ ap (λ c. cond c (Some end) None) t)))
-    (λ t. grind (arith, t, prefix_len-le-length (λ x. not (p x)) xs))
+use Rattle.mps_fields.specs.FrontLaws.{one_more}
 
 -- where the first piece ends
 abbrev piece_end : List ℕ → ℕ

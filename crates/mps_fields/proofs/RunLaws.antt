@@ -5,13 +5,10 @@ use Rattle.std.proofs.lemmas.List.{nil_from_length, length-drop}
 use Rattle.std.proofs.lemmas.List.Sums.{prefix_len-le-length}
 use Rattle.mps_fields.specs.Lines.{is_blank}
 use Rattle.mps_fields.specs.FreeFields.{fields_from, onto_first_field}
-use Rattle.mps_fields.specs.FreeViews.{run_span, CutsFirst}
+use Rattle.mps_fields.specs.FieldViews.{cut_span, CutsFirst}
 use Rattle.mps_fields.specs.declared.runs.Cut.{Cut}
-use Rattle.mps_fields.proofs.Booleans.{either}
-
--- one more on either side
-one_more : (n : ℕ) → 1 + n ≡ suc n
-one_more n = omega arith
+use Rattle.mps_fields.specs.BooleanLaws.{either}
+use Rattle.mps_fields.specs.FrontLaws.{one_more}
 
 -- how many blanks stand in front
 abbrev pub blanks : List ℕ → ℕ
@@ -122,19 +119,19 @@ unfolding fields_from
 no_run place bytes none = behind_blanks place bytes ∙ ap (fields_from (place + blanks bytes)) (nil_from_length _ none)
 
 -- what the code cuts is the first field
-pub run_cut : (place : ℕ) (bytes rest : List ℕ) (cut : Cut) → rest ≡ drop (blanks bytes) bytes → 0 < length rest → cut.run.at ≡ place + blanks bytes → cut.run.text.now ≡ take (run_end rest) rest
-    → cut.rest.now ≡ drop (run_end rest) rest → cut.end ≡ cut.run.at + run_end rest → CutsFirst place bytes cut
+pub run_cut : (place : ℕ) (bytes rest : List ℕ) (cut : Cut) → rest ≡ drop (blanks bytes) bytes → 0 < length rest → cut.at ≡ place + blanks bytes → cut.text.now ≡ take (run_end rest) rest
+    → cut.rest.now ≡ drop (run_end rest) rest → cut.end ≡ cut.at + run_end rest → CutsFirst place bytes cut
 run_cut place bytes rest cut behind some at text left end =
-    let first = run_first cut.run.at rest (subst StartsRun (sym behind) (starts_run bytes)) some in
-    let start : fields_from place bytes ≡ fields_from cut.run.at rest =
-    behind_blanks place bytes ∙ ap (λ p. fields_from p (drop (blanks bytes) bytes)) (sym at) ∙ ap (fields_from cut.run.at) (sym behind) in
+    let first = run_first cut.at rest (subst StartsRun (sym behind) (starts_run bytes)) some in
+    let start : fields_from place bytes ≡ fields_from cut.at rest =
+    behind_blanks place bytes ∙ ap (λ p. fields_from p (drop (blanks bytes) bytes)) (sym at) ∙ ap (fields_from cut.at) (sym behind) in
     let len : length rest ≡ length bytes - blanks bytes = ap length behind ∙ length-drop (blanks bytes) bytes in
     let len' : length cut.rest.now ≡ length rest - run_end rest = ap length left ∙ length-drop (run_end rest) rest in
     let within : run_end rest ≤ length rest = prefix_len-le-length (λ x. not (is_blank x)) rest in
     record {
       first =
-          start ∙ first.0 ∙ ap (λ t. (record { at = cut.run.at; text = t }) ∷ fields_from (cut.run.at + run_end rest) (drop (run_end rest) rest)) (sym text)
-          ∙ ap (λ e. run_span cut.run ∷ fields_from e (drop (run_end rest) rest)) (sym end) ∙ ap (λ r. run_span cut.run ∷ fields_from cut.end r) (sym left);
+          start ∙ first.0 ∙ ap (λ t. (record { at = cut.at; text = t }) ∷ fields_from (cut.at + run_end rest) (drop (run_end rest) rest)) (sym text)
+          ∙ ap (λ e. cut_span cut ∷ fields_from e (drop (run_end rest) rest)) (sym end) ∙ ap (λ r. cut_span cut ∷ fields_from cut.end r) (sym left);
       within = omega arith;
       shorter = omega (arith, first.1);
     }

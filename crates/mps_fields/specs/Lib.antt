@@ -3,7 +3,9 @@ pub mod FreeFields
 pub mod FixedFields
 pub mod Decimal
 pub mod Reading
-pub mod Parts
+pub mod ReadingLaws
+pub mod DecimalParts
 pub mod LineViews
 pub mod FieldViews
-pub mod FreeViews
+pub mod BooleanLaws
+pub mod FrontLaws

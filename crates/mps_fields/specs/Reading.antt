@@ -1,6 +1,6 @@
 -- The parts of a number of fixed and free MPS (IBM's MPSX and its successors),
 -- found from the left of its text: the form of `Decimal.antt` that computes. A text spells one
--- decimal at most, and it is the one found here (`Rattle.mps_fields.proofs.ReadingLaws`).
+-- decimal at most, and it is the one found here (`Rattle.mps_fields.specs.ReadingLaws`).
 use Rattle.std.specs.Prelude.{ℕ, ◌&&◌, ◌||◌, ◌==◌, if◌then◌else◌, List, [], ◌∷◌, ◌++◌, take, drop, Option, Some, None, Result, Ok, Err}
 use Rattle.std.specs.List.{prefix_len}
 use Rattle.exact_math.specs.Rational.{ℚ}

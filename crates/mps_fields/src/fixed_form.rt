@@ -83,7 +83,7 @@ fn last_other(bytes: &[u8]) -> Option<usize>
 }
 
 // How many blanks stand in front.
-#[tactic(auto, using(crate::proofs::SpaceLaws::lead_some, crate::proofs::SpaceLaws::lead_none))]
+#[tactic(auto, using(crate::specs::FrontLaws::lead_some, crate::specs::FrontLaws::lead_none))]
 fn lead_len(bytes: &[u8]) -> usize
     ensures len { result ≡ prefix_len space bytes.now }
     ensures within { result ≤ length bytes.now }
@@ -95,7 +95,7 @@ fn lead_len(bytes: &[u8]) -> usize
 }
 
 // How many blanks stand at the end.
-#[tactic(auto, using(crate::proofs::SpaceLaws::tail_some, crate::proofs::SpaceLaws::tail_none))]
+#[tactic(auto, using(crate::specs::FrontLaws::tail_some, crate::specs::FrontLaws::tail_none))]
 fn tail_len(bytes: &[u8]) -> usize
     ensures len { result ≡ suffix_len space bytes.now }
     ensures within { result ≤ length bytes.now }

@@ -1,12 +1,13 @@
 //! The fields of a line in free form.
-ghost use Rattle.std.specs.Prelude.{◌≡◌, ◌+◌, ◌<◌, ◌≤◌, ◌^◌, length, slice_get, Some, []};
+ghost use Rattle.std.specs.Prelude.{◌≡◌, ◌+◌, ◌<◌, ◌≤◌, ◌^◌, length, map, slice_get, Some, []};
+ghost use Rattle.std.specs.List.{All};
 ghost use Rattle.mps_fields.specs.FreeFields.{free_line, with_field};
-ghost use Rattle.mps_fields.specs.FreeViews.{run_span};
 ghost use Rattle.mps_fields.specs.FieldViews.{field_span};
 ghost use Rattle.mps_fields.specs.LineViews.{line_view};
+ghost use Rattle.mps_fields.specs.Lines.{most_bytes};
 
 use crate::field::Field;
-use crate::runs::{Run, cut_run};
+use crate::runs::cut_run;
 use crate::text_lines::TextLine;
 use std::marker::Model;
 
@@ -16,41 +17,49 @@ const MOST_FIELDS: usize = 6;
 /// The first six fields of a line in free form, and the number of all.
 #[derive(Debug, Drop)]
 pub struct FreeFields<'a> {
-    runs: [Run<'a>; MOST_FIELDS],
+    fields: [Field<'a>; MOST_FIELDS],
     count: usize,
     line: u32,
 }
 
 impl<'a> Model for FreeFields<'a> {
-    ghost use Rattle.std.specs.Prelude.{◌≡◌, map, take, length};
+    ghost use Rattle.std.specs.Prelude.{map, take};
     ghost use Rattle.mps_fields.specs.FreeFields.{FreeLine};
-    ghost use Rattle.mps_fields.specs.FreeViews.{run_span};
+    ghost use Rattle.mps_fields.specs.FieldViews.{field_span, AreSixOf};
 
     ghost Value = { FreeLine };
 
-    ghost view = { λ s. record { fields = take s.count (map run_span s.runs); count = s.count; number = s.line } };
+    ghost view = { λ s. record { fields = take s.count (map field_span s.fields); count = s.count; number = s.line } };
 
-    ghost invariant = { λ s. length s.runs ≡ 6 };
+    ghost invariant = { λ s. AreSixOf s.line s.fields };
 }
 
 impl<'a> FreeFields<'a> {
     fn new(line: u32) -> FreeFields<'a>
         ensures { result ≡ record { fields = []; count = 0; number = line } }
     {
-        let none = Run { at: 0, text: &[] };
+        let none = Field {
+            text: &[],
+            line,
+            at: 0,
+        };
         FreeFields {
-            runs: [none; MOST_FIELDS],
+            fields: [none; MOST_FIELDS],
             count: 0,
             line,
         }
     }
 
-    fn add(&mut self, run: Run<'a>)
-        requires { self.old.count < 16777216 }
-        ensures { self.new ≡ with_field self.old (run_span run.entry) }
+    fn add(&mut self, at: u32, text: &'a [u8])
+        requires { self.old.count < most_bytes }
+        ensures { self.new ≡ with_field self.old (record { at = at; text = text.now }) }
     {
         if self.count < MOST_FIELDS {
-            self.runs[self.count] = run;
+            self.fields[self.count] = Field {
+                text,
+                line: self.line,
+                at,
+            };
         }
         self.count += 1;
     }
@@ -69,25 +78,28 @@ impl<'a> FreeFields<'a> {
         ensures span { slice_get self.now.fields i ≡ Some (field_span result) }
         ensures line { result.line ≡ self.now.number }
     {
-        let run = self.runs[i];
-        Field {
-            text: run.text,
-            line: self.line,
-            at: run.at,
-        }
+        self.fields[i]
+    }
+
+    /// The first six fields, in order.
+    pub fn fields(&self) -> &[Field<'a>]
+        ensures spans { map field_span result.now ≡ self.now.fields }
+        ensures line { All (λ field. field.line ≡ self.now.number) result.now }
+    {
+        &self.fields[..self.count.min(MOST_FIELDS)]
     }
 }
 
 /// The fields of a line in free form, of which the first six are kept.
 pub fn fields_free<'a>(line: &TextLine<'a>) -> FreeFields<'a>
-    requires { length line.now.bytes.now ≤ 16777216 }
+    requires { length line.now.bytes.now ≤ most_bytes }
     ensures { result ≡ free_line (line_view line.now) }
 {
     let mut found = FreeFields::new(line.number);
     let mut rest = line.bytes;
     let mut place = 0;
     while let Some(cut) = cut_run(rest, place) {
-        found.add(cut.run);
+        found.add(cut.at, cut.text);
         rest = cut.rest;
         place = cut.end;
     }

@@ -1,21 +1,15 @@
 //! Runs of bytes other than blank and tab.
 ghost use Rattle.std.specs.Prelude.{◌≡◌, ◌+◌, ◌≤◌, [], not, position, length, MatchOption};
 ghost use Rattle.std.specs.List.{prefix_len, position_or_len};
-ghost use Rattle.mps_fields.specs.Lines.{is_blank as blank};
+ghost use Rattle.mps_fields.specs.Lines.{is_blank as blank, most_bytes};
 ghost use Rattle.mps_fields.specs.FreeFields.{fields_from};
-ghost use Rattle.mps_fields.specs.FreeViews.{CutsFirst};
+ghost use Rattle.mps_fields.specs.FieldViews.{CutsFirst};
 
-/// A run that begins `at` bytes into its line.
-#[derive(Clone, Copy, Debug)]
-pub(crate) struct Run<'a> {
-    pub(crate) at: u32,
-    pub(crate) text: &'a [u8],
-}
-
-/// A run, and the rest of the line, which begins at the place `end`.
+/// A run that begins `at` bytes into its line, and the rest of the line, which begins at the place `end`.
 #[derive(Clone, Copy, Debug)]
 pub(crate) struct Cut<'a> {
-    pub(crate) run: Run<'a>,
+    pub(crate) at: u32,
+    pub(crate) text: &'a [u8],
     pub(crate) rest: &'a [u8],
     pub(crate) end: u32,
 }
@@ -39,7 +33,7 @@ fn first_blank(bytes: &[u8]) -> Option<usize>
 }
 
 // How many blanks stand in front.
-#[tactic(auto, using(crate::proofs::LineLaws::place_some, crate::proofs::LineLaws::place_none))]
+#[tactic(auto, using(crate::specs::FrontLaws::place_some, crate::specs::FrontLaws::place_none))]
 fn blanks_len(bytes: &[u8]) -> usize
     ensures len { result ≡ position_or_len (λ byte. not (blank byte)) bytes.now }
     ensures within { result ≤ length bytes.now }
@@ -51,7 +45,7 @@ fn blanks_len(bytes: &[u8]) -> usize
 }
 
 // How many bytes of a run stand in front.
-#[tactic(auto, using(crate::proofs::LineLaws::place_some, crate::proofs::LineLaws::place_none))]
+#[tactic(auto, using(crate::specs::FrontLaws::place_some, crate::specs::FrontLaws::place_none))]
 fn run_len(bytes: &[u8]) -> usize
     ensures len { result ≡ position_or_len blank bytes.now }
     ensures within { result ≤ length bytes.now }
@@ -64,7 +58,7 @@ fn run_len(bytes: &[u8]) -> usize
 
 /// The first run of bytes that begin at a place of a line, or `None` where only blanks are left.
 pub(crate) fn cut_run(bytes: &[u8], place: u32) -> Option<Cut<'_>>
-    requires { place + length bytes.now ≤ 16777216 }
+    requires { place + length bytes.now ≤ most_bytes }
     ensures { MatchOption result (fields_from place bytes.now ≡ []) (CutsFirst place bytes.now) }
 {
     let blanks = blanks_len(bytes);
@@ -75,7 +69,8 @@ pub(crate) fn cut_run(bytes: &[u8], place: u32) -> Option<Cut<'_>>
     let (text, rest) = bytes.split_at(run_len(bytes));
     let at = place + blanks as u32;
     Some(Cut {
-        run: Run { at, text },
+        at,
+        text,
         rest,
         end: at + text.len() as u32,
     })

@@ -2,30 +2,30 @@
 ghost use Rattle.std.specs.Prelude.{◌≡◌, ◌≤◌, ◌∷◌, [], ◌++◌, ℤ, List, Option, true, false, length, option_map};
 ghost use Rattle.std.specs.Option.{option_map_or};
 ghost use Rattle.exact_math.specs.Rational.{whole};
-ghost use Rattle.mps_fields.specs.Lines.{Line, is_section_line as section_line};
+ghost use Rattle.mps_fields.specs.Lines.{Line, is_section_line as begins_section};
 ghost use Rattle.mps_fields.specs.LineViews.{line_view};
 ghost use Rattle.mps_model.specs.declared.layout.Layout.{Layout as TheLayout};
 ghost use Rattle.mps_model.specs.Sections.{is_content as content_line};
 ghost use Rattle.mps_model.specs.SectionOrder.{is_same};
 ghost use Rattle.mps_model.specs.Tables.{tables_of};
-ghost use Rattle.mps_model.specs.Stated.{stated};
+ghost use Rattle.mps_model.specs.StatedModel.{stated};
 ghost use Rattle.mps_model.specs.Meaning.{unless_fault, first_column_fault};
-ghost use Rattle.mps_model.specs.Answers.{Answers};
+ghost use Rattle.mps_model.specs.ReadAnswers.{Answers};
 ghost use Rattle.mps_model.specs.LineFaults.{section_fault, line_fault};
 ghost use Rattle.mps_model.specs.Judging.{Judges};
 ghost use Rattle.mps_model.specs.KeptSections.{IsSized, IsBuildable};
-ghost use Rattle.mps_model.specs.Keeps.{Keeps};
+ghost use Rattle.mps_model.specs.KeptLines.{Keeps};
 
-use crate::data_fields::DataFields;
 use crate::fault::FaultKind;
 use crate::layout::Layout;
-use crate::line_kind::{is_allowed, is_content, is_section_line};
-use crate::order::Order;
+use crate::line_stop::LineStop;
+use crate::lines::data_fields::DataFields;
+use crate::lines::line_kind::{is_allowed, is_content, is_section_line};
+use crate::lines::section::Section;
+use crate::lines::section_line::section_line;
+use crate::lines::section_order::Order;
 use crate::read_stop::ReadStop;
-use crate::section::Section;
-use crate::sections::{has_more_fields, section_at};
-use crate::stop::LineStop;
-use crate::text_tables::TextTables;
+use crate::tables::text_tables::TextTables;
 use frac128::Frac;
 use int_model::Model;
 use mps_fields::TextLine;
@@ -88,20 +88,20 @@ impl<'a> Reader<'a> {
     // Judges a section line, and begins its section.
     fn begin(&mut self, line: &TextLine) -> Result<(), LineStop>
         requires { length line.now.bytes.now ≤ 1024 }
-        ensures { (layout : TheLayout) (above : List Line) → section_line line.now.bytes.now ≡ true
+        ensures { (layout : TheLayout) (above : List Line) → begins_section line.now.bytes.now ≡ true
             → line_fault layout above (line_view line.now) ≡ section_fault above (line_view line.now) → Keeps layout above self.old
             → Judges (line_fault layout above (line_view line.now)) (Keeps layout (above ++ line_view line.now ∷ []) self.new) result }
     {
-        let Some(section) = section_at(line) else {
+        let Some(said) = section_line(line) else {
             return Err(LineStop::Fault(FaultKind::Section));
         };
-        let Some(order) = self.order.next(section) else {
+        let Some(order) = self.order.next(said.section) else {
             return Err(LineStop::Fault(FaultKind::Section));
         };
-        if has_more_fields(line) {
+        if said.has_more_fields {
             return Err(LineStop::Fault(FaultKind::FieldCount));
         }
-        self.tables.begin(self.alloc, section)?;
+        self.tables.begin(self.alloc, said.section)?;
         self.order = order;
         Ok(())
     }

@@ -1,2 +1,8 @@
 pub mod Slices
 pub mod Ends
+pub mod Items
+pub mod Shut
+pub mod Nodes
+pub mod Sides
+pub mod NodeViews
+pub mod PlainMoves

@@ -2,7 +2,7 @@
 use Rattle.std.proofs.Common.{◌≡◌, ℕ, ◌≤◌, ◌⊎◌, ⊎_elim, List, [], ◌++◌, length, take, drop, Option, Some, None, refl, sym, ap, ◌∙◌, arith}
 use Rattle.std.specs.Prelude.{IfSome, option_map}
 use Rattle.std.proofs.lemmas.List.{append-nil, append_cancel_left, take_all, drop_all, take_at, drop_at, take-append-le}
-use Rattle.desk_io.proofs.Taken.{IsTaken}
+use Rattle.desk_io.specs.TakeLaws.{IsTaken}
 
 -- the bytes that a slice of a longer buffer took
 pub taken_front : (text new buffer behind : List ℕ) (n : ℕ) → n ≤ length buffer → new ≡ text ++ take n (buffer ++ behind) → new ≡ text ++ take n buffer

@@ -1,3 +1,4 @@
+mod FlatLemmas
 mod SumLemmas
 mod WholeRowLemmas
-mod FlatLemmas
+mod EndLemmas

@@ -1,21 +1,16 @@
 -- Sums of products, place by place.
-use Rattle.std.proofs.Common.{◌≡◌, ℕ, ◌+◌, ◌*◌, ◌^◌, ◌<◌, ◌≤◌, List, [], ◌∷◌, length, drop, get_or, ℤ, pos, ◌+ℤ◌, ◌*ℤ◌, ◌≤ℤ◌, nat_abs, refl, sym, ap, ◌∙◌, arith, FitsSigned}
+use Rattle.std.proofs.Common.{◌≡◌, ℕ, ◌+◌, ◌*◌, ◌^◌, ◌<◌, ◌≤◌, List, length, drop, get_or, ℤ, pos, ◌+ℤ◌, ◌*ℤ◌, nat_abs, refl, sym, ap, ◌∙◌, arith, FitsSigned}
 use Rattle.std.specs.Int.{w128}
 use Rattle.std.proofs.lemmas.List.{drop_more}
 use Rattle.std.proofs.lemmas.Int.{fits_signed_from_abs}
 use Rattle.exact_math.specs.Ring.{integers}
-use Rattle.exact_math.specs.IntegerRing.{linear, add_assoc}
+use Rattle.exact_math.specs.IntegerRing.{add_assoc}
 use Rattle.exact_math.specs.IntegerOrder.{abs_mul, abs_add_le}
 use Rattle.exact_vectors.specs.Vectors.{dot}
-use Rattle.std.proofs.Math.Nat.{mul-le-mul_left}
-use Rattle.whole_rows.specs.declared.bounds.Bounds.{Bounds}
-use Rattle.whole_rows.specs.WholeRows.{LiesIn, reach, span, size_sum}
+use Rattle.exact_vectors.specs.DotLaws.{dot-drop}
+use Rattle.whole_rows.specs.WholeRows.{size_sum}
 
--- the sum of the products from one place on is the product there and the sum after it
-pub dot-drop : (a x : List ℤ) (i : ℕ) → i < length a → i < length x → dot integers (drop i a) (drop i x) ≡ get_or a i (pos 0) *ℤ get_or x i (pos 0) +ℤ dot integers (drop (i + 1) a) (drop (i + 1) x)
-dot-drop a x i h k = rw (drop_more a i (pos 0) h, drop_more x i (pos 0) k) refl
-
--- the same of the sizes
+-- the sizes of the products from one place on
 pub size_sum-drop : (a x : List ℤ) (i : ℕ) → i < length a → i < length x → size_sum (drop i a) (drop i x) ≡ nat_abs (get_or a i (pos 0)) * nat_abs (get_or x i (pos 0)) + size_sum (drop (i + 1) a) (drop (i + 1) x)
 size_sum-drop a x i h k = rw (drop_more a i (pos 0) h, drop_more x i (pos 0) k) refl
 
@@ -26,7 +21,7 @@ pub record IsSumUpTo (a x : List ℤ) (i : ℕ) (sum : ℤ) : Type 0 where
 
 pub IsSumUpTo-more : (a x : List ℤ) (i : ℕ) (sum : ℤ) → i < length a → i < length x → IsSumUpTo a x i sum → IsSumUpTo a x (i + 1) (sum +ℤ get_or a i (pos 0) *ℤ get_or x i (pos 0))
 IsSumUpTo-more a x i sum h k s = record {
-  value = add_assoc sum (get_or a i (pos 0) *ℤ get_or x i (pos 0)) _ ∙ ap (λ t. sum +ℤ t) (sym (dot-drop a x i h k)) ∙ s.value;
+  value = add_assoc sum (get_or a i (pos 0) *ℤ get_or x i (pos 0)) _ ∙ ap (λ t. sum +ℤ t) (sym (dot-drop integers a x i (pos 0) (pos 0) h k)) ∙ s.value;
   small = omega (arith, s.small, size_sum-drop a x i h k, abs_mul (get_or a i (pos 0)) (get_or x i (pos 0)), abs_add_le sum (get_or a i (pos 0) *ℤ get_or x i (pos 0)));
 }
 
@@ -36,15 +31,3 @@ product_fits a x i sum h k s = fits_signed_from_abs w128 (get_or a i (pos 0) *�
 
 pub sum_fits : (a x : List ℤ) (i : ℕ) (sum : ℤ) → IsSumUpTo a x i sum → FitsSigned w128 sum
 sum_fits a x i sum s = fits_signed_from_abs w128 sum (omega (arith, s.small))
-
--- a value between two bounds is at most their reach in size
-pub size_within : (bounds : Bounds) (value : ℤ) → bounds.low ≤ℤ value → value ≤ℤ bounds.high → nat_abs value ≤ reach bounds
-size_within bounds value above below = omega linear
-
--- within the box, the sizes of the products sum to the row's span at most
-pub size_sum-within : (factors : List ℤ) (box : List Bounds) (x : List ℤ) → LiesIn box x → size_sum factors x ≤ span factors box
-size_sum-within [] box x lies = omega arith
-size_sum-within (factor ∷ factors) [] [] lies = omega arith
-size_sum-within (factor ∷ factors) [] (value ∷ x) lies = absurd lies
-size_sum-within (factor ∷ factors) (bounds ∷ box) [] lies = absurd lies
-size_sum-within (factor ∷ factors) (bounds ∷ box) (value ∷ x) lies = omega (arith, size_sum-within factors box x lies.1, mul-le-mul_left (nat_abs factor) (size_within bounds value lies.0.0 lies.0.1))

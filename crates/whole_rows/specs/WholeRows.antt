@@ -1,5 +1,5 @@
 -- Rows of whole numbers with a factor for each column, over a box, and how large the numbers are that they lead to.
-use Rattle.std.specs.Prelude.{◌≡◌, ℕ, ◌+◌, ◌*◌, ◌^◌, ◌≤◌, max, ℤ, pos, ◌≤ℤ◌, List, [], ◌∷◌, length, Option, Some, None, IfSome, All, slice_index_or, unsigned_abs}
+use Rattle.std.specs.Prelude.{◌≡◌, ℕ, ◌+◌, ◌*◌, ◌^◌, ◌<◌, ◌≤◌, max, ℤ, pos, ◌≤ℤ◌, List, [], ◌∷◌, ◌++◌, length, take, replicate, Option, Some, None, IfSome, All, slice_index_or, unsigned_abs}
 use Rattle.std.specs.List.{AllZip}
 use Rattle.exact_math.specs.Ring.{integers}
 use Rattle.exact_vectors.specs.Vectors.{dot}
@@ -70,6 +70,10 @@ size_of_side (Some side) = unsigned_abs side
 abbrev pub weight : List Bounds → WholeRow → ℕ
 weight box row = span row.factors box + size_of_side row.low + size_of_side row.high
 
+-- a weight above 2 to the power 96
+abbrev pub IsHeavy : ℕ → Type 0
+IsHeavy weight = 2 ^ 96 < weight
+
 -- no column reaches, and no row weighs, above 2 to the power 96
 pub record IsLight (rows : WholeRows) : Type 0 where
   pub reaches : All (λ bounds. reach bounds ≤ 2 ^ 96) rows.box
@@ -84,6 +88,24 @@ pub record IsWithinLimits (rows : WholeRows) : Type 0 where
   pub light : IsLight rows
   pub priced : length rows.cost ≡ length rows.box
   pub light_cost : span rows.cost rows.box ≤ 2 ^ 96
+
+-- column number j reaches above 2 to the power 96, and no column before it does
+pub record IsFirstHeavy (box : List Bounds) (j : ℕ) : Type 0 where
+  pub within : j < length box
+  pub heavy : IsHeavy (reach (slice_index_or box j (record { low = pos 0; high = pos 0 })))
+  pub first : All (λ bounds. reach bounds ≤ 2 ^ 96) (take j box)
+
+-- the box, without rows and at no cost
+abbrev pub rows_over : List Bounds → WholeRows
+rows_over box = record { box = box; rows = []; cost = replicate (length box) (pos 0) }
+
+-- one row more, at the end
+abbrev pub with_row : WholeRows → WholeRow → WholeRows
+with_row rows row = record rows { rows = rows.rows ++ row ∷ [] }
+
+-- the same rows at other costs
+abbrev pub with_cost : WholeRows → List ℤ → WholeRows
+with_cost rows cost = record rows { cost = cost }
 
 -- the sum of the sizes of the products: no part of the sum of the products is larger in size
 abbrev pub size_sum : List ℤ → List ℤ → ℕ

@@ -1,10 +1,15 @@
 //! Whole rows over a box, with a factor for each column.
-ghost use Rattle.std.specs.Prelude.{◌≡◌, ◌^◌, ◌≤◌, ◌<◌, ◌↔◌, pos, length, All, IsTrue};
-ghost use Rattle.whole_rows.specs.WholeRows.{LiesIn, Meets, MeetsRow, cut_value, row_at, bounds_at, reach, span, weight, IsWithinLimits};
+ghost use Rattle.std.specs.Prelude.{◌≡◌, ◌^◌, ◌≤◌, ◌<◌, ◌↔◌, ℕ, pos, length, All, IfOk, OnOk, OnErr, IsErrOf, IsTrue};
+ghost use Rattle.whole_rows.specs.WholeRows.{LiesIn, Meets, MeetsRow, cut_value, row_at, bounds_at, reach, span, weight, IsHeavy, IsFirstHeavy, IsWithinLimits, rows_over, with_row, with_cost};
+ghost use Rattle.whole_rows.specs.declared.stops.BoxStop.TheVariants as box_stops;
+ghost use Rattle.whole_rows.specs.declared.stops.RowStop.TheVariants as row_stops;
 
 use crate::bounds::Bounds;
 use crate::sides::Sides;
+use crate::stops::{BoxStop, HeavyCost, RowStop};
 use crate::sums::{dot_product, is_within, lies_in};
+use crate::weights::{first_heavy, span_of, weight_of};
+use std::alloc::Global;
 use std::marker::Model;
 
 /// Rows of whole numbers with a factor for each column, the bounds of the columns, and a cost for each column. The
@@ -30,6 +35,63 @@ impl Model for DenseRows {
 }
 
 impl DenseRows {
+    /// No rows over a box with at most 256 columns, and a cost of 0 for each column.
+    pub fn new(alloc: Global, bounds: Vec<Bounds>) -> Result<DenseRows, BoxStop>
+        requires { length bounds.items ≤ 256 }
+        ensures ok { IfOk result (λ rows. rows ≡ rows_over bounds.items) }
+        ensures light { OnOk result (All (λ bounds. reach bounds ≤ 2 ^ 96) bounds.items) }
+        ensures heavy { (j : ℕ) → IsErrOf result (box_stops.Heavy j) → IsFirstHeavy bounds.items j }
+    {
+        if let Some(j) = first_heavy(&bounds) {
+            return Err(BoxStop::Heavy(j as u32));
+        }
+        let cost = vec![in alloc; 0; bounds.len()]?;
+        Ok(DenseRows {
+            bounds,
+            factors: Vec::new(alloc),
+            sides: Vec::new(alloc),
+            cost,
+        })
+    }
+
+    /// Puts a row at the end: its factors, one for each column, and its sides. Where it is refused the rows are as before.
+    pub fn push_row(
+        &mut self,
+        factors: &[i128],
+        low: Option<i128>,
+        high: Option<i128>,
+    ) -> Result<(), RowStop>
+        requires dense { length factors.now ≡ length self.old.box }
+        requires room { length self.old.rows < 256 }
+        ensures ok { OnOk result (self.new ≡ with_row self.old (record { factors = factors.now; low = low; high = high })) }
+        ensures light { OnOk result (weight self.old.box (record { factors = factors.now; low = low; high = high }) ≤ 2 ^ 96) }
+        ensures heavy { IsErrOf result row_stops.Heavy → IsHeavy (weight self.old.box (record { factors = factors.now; low = low; high = high })) }
+        ensures err { OnErr result (self.new ≡ self.old) }
+    {
+        let Some(weight) = weight_of(factors, low, high, &self.bounds) else {
+            return Err(RowStop::Heavy);
+        };
+        self.sides.try_reserve(1)?;
+        self.factors.extend_from_slice(factors)?;
+        self.sides.push(Sides { low, high, weight }).unwrap();
+        Ok(())
+    }
+
+    /// Puts other costs, one for each column, in place of those that stand. Where they are refused the rows are as before.
+    pub fn set_cost(&mut self, cost: &[i128]) -> Result<(), HeavyCost>
+        requires { length cost.now ≡ length self.old.box }
+        ensures ok { OnOk result (self.new ≡ with_cost self.old cost.now) }
+        ensures light { OnOk result (span cost.now self.old.box ≤ 2 ^ 96) }
+        ensures heavy { OnErr result (IsHeavy (span cost.now self.old.box)) }
+        ensures err { OnErr result (self.new ≡ self.old) }
+    {
+        if span_of(cost, &self.bounds).is_none() {
+            return Err(HeavyCost);
+        }
+        self.cost.copy_from_slice(cost);
+        Ok(())
+    }
+
     /// How many columns there are.
     pub fn columns(&self) -> usize
         ensures count { result ≡ length self.now.box }

@@ -1,4 +1,4 @@
-use Rattle.mps_fields.proofs.ReadingLaws as Laws
+use Rattle.mps_fields.specs.ReadingLaws as Laws
 use Rattle.mps_fields.proofs.examples.one_reading.Goals as goal
 
 pub returns-clause-one : goal.returns-clause-one

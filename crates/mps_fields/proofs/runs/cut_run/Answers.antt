@@ -1,6 +1,6 @@
 use Rattle.std.proofs.Common.{◌≡◌, ◌+◌, length, take, drop, sym, ap, ◌∙◌}
 use Rattle.std.proofs.lemmas.Bool.{eqb-true}
-use Rattle.mps_fields.proofs.Booleans.{above_zero}
+use Rattle.mps_fields.specs.BooleanLaws.{above_zero}
 use Rattle.mps_fields.proofs.RunLaws.{blanks, no_run, run_cut}
 use Rattle.mps_fields.proofs.runs.cut_run.Goals as goal
 

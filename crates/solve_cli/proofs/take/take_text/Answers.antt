@@ -4,7 +4,7 @@ use Rattle.std.proofs.lemmas.List.{append-nil, length-append, length-drop, lengt
 use Rattle.std.specs.Prelude.{option_map}
 use Rattle.std.specs.Option.{ForSome}
 use Rattle.desk_io.specs.Desk.{TakesFrom}
-use Rattle.desk_io.proofs.Taken.{taken_more, taken_all}
+use Rattle.desk_io.specs.TakeLaws.{taken_more, taken_all}
 use Rattle.solve_cli.specs.Limits.{most_taken}
 use Rattle.solve_cli.proofs.TakeLaws.{taken_front, is_front, is_behind}
 use Rattle.solve_cli.proofs.take.take_text.Goals.{then-loop-ended-test+else-len-lt-TAKEN_BYTES, else-loop-ended-test}

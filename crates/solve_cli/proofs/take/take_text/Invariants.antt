@@ -1,6 +1,6 @@
 use Rattle.std.proofs.Common.{◌≡◌, ◌≤◌, ◌-◌, ◌+◌, ℕ, List, Some, None, true, cond, length}
 use Rattle.desk_io.specs.Desk.{Same, SameButAt}
-use Rattle.desk_io.proofs.Taken.{IsTaken}
+use Rattle.desk_io.specs.TakeLaws.{IsTaken}
 use Rattle.solve_cli.proofs.take.take_text.Given as goal
 
 abbrev pub invariant-loop-ended : goal.invariant-loop-ended

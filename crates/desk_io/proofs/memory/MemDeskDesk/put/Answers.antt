@@ -1,6 +1,6 @@
 use Rattle.std.proofs.Common.{rules, ◌≡◌}
 use Rattle.desk_io.specs.Memory.{written_to}
-use Rattle.desk_io.proofs.Appended.{appends_none}
+use Rattle.desk_io.specs.AppendLaws.{appends_none}
 use Rattle.desk_io.proofs.Outcomes.{on_err}
 use Rattle.desk_io.proofs.memory.MemDeskDesk.put.Goals as goal
 

@@ -1,5 +1,5 @@
 use Rattle.std.proofs.Common.{rules, ◌≡◌, Some, ap}
-use Rattle.desk_io.proofs.Appended.{appends_none}
+use Rattle.desk_io.specs.AppendLaws.{appends_none}
 use Rattle.desk_io.proofs.Outcomes.{on_err}
 use Rattle.desk_io.proofs.memory.MemDeskDesk.say.Goals as goal
 

@@ -1,6 +1,6 @@
 use Rattle.std.proofs.Common.{rules, ◌≡◌, Some}
 use Rattle.desk_io.specs.Memory.{input_of}
-use Rattle.desk_io.proofs.Taken.{takes_least}
+use Rattle.desk_io.specs.TakeLaws.{takes_least}
 use Rattle.desk_io.proofs.memory.MemDeskDesk.take.Goals as goal
 
 pub returns-in-Some-clause-full : goal.returns-in-Some-clause-full

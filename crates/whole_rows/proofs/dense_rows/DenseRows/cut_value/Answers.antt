@@ -1,7 +1,7 @@
 use Rattle.std.proofs.Common.{◌≡◌, ap, sym, ◌∙◌, subst, length, arith}
 use Rattle.std.proofs.lemmas.Slice.Zip.{AllZip-long}
 use Rattle.whole_rows.specs.WholeRows.{WholeRows, IsWithinLimits}
-use Rattle.whole_rows.proofs.SumLemmas.{size_sum-within}
+use Rattle.whole_rows.specs.WeightLaws.{size_sum-within}
 use Rattle.whole_rows.proofs.dense_rows.DenseRows.cut_value.Goals as goal
 use Rattle.whole_rows.proofs.dense_rows.DenseRows.cut_value.Goals.{After-deref}
 

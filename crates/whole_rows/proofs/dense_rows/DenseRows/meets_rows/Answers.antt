@@ -7,7 +7,7 @@ use Rattle.std.proofs.lemmas.List.{take_all}
 use Rattle.std.proofs.lemmas.List.Elements.{All-more}
 use Rattle.std.proofs.lemmas.Slice.Zip.{AllZip-long}
 use Rattle.whole_rows.specs.WholeRows.{MeetsRow, row_at}
-use Rattle.whole_rows.proofs.SumLemmas.{size_sum-within}
+use Rattle.whole_rows.specs.WeightLaws.{size_sum-within}
 use Rattle.whole_rows.proofs.WholeRowLemmas.{meets_row-read}
 use Rattle.whole_rows.proofs.dense_rows.DenseRows.meets_rows.Goals as goal
 

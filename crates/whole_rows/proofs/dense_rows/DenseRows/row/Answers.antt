@@ -1,7 +1,7 @@
 use Rattle.std.proofs.Common.{rules, ◌≡◌, ap, sym, subst, ◌+◌, ◌-◌, ◌*◌, ◌<◌, ◌≤◌, length, None, arith}
 use Rattle.std.proofs.lemmas.Nat.{row_fits}
 use Rattle.whole_rows.specs.WholeRows.{WholeRow, IsWithinLimits}
-use Rattle.whole_rows.proofs.WholeRowLemmas.{span-row_at}
+use Rattle.whole_rows.specs.WeightLaws.{span-row_at}
 use Rattle.whole_rows.proofs.FlatLemmas.{rows-whole_rows, row-whole_rows}
 use Rattle.whole_rows.proofs.dense_rows.DenseRows.row.Goals as goal
 

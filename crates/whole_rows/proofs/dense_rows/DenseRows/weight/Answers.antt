@@ -4,7 +4,7 @@ use Rattle.std.proofs.lemmas.Int.{fits_signed_from_abs, to_z_pos}
 use Rattle.whole_rows.specs.declared.sides.Sides.{Sides}
 use Rattle.whole_rows.specs.WholeRows.{weight, row_at, IsWithinLimits}
 use Rattle.whole_rows.proofs.FlatLemmas.{rows-whole_rows, weight-whole_rows}
-use Rattle.whole_rows.proofs.WholeRowLemmas.{weight-row_at}
+use Rattle.whole_rows.specs.WeightLaws.{weight-row_at}
 use Rattle.whole_rows.proofs.dense_rows.DenseRows.weight.Goals as goal
 use Rattle.whole_rows.proofs.dense_rows.DenseRows.weight.Goals.{After-index}
 
