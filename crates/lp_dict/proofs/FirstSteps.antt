@@ -1,12 +1,12 @@
 -- What the loops that write the first dictionary use.
-use Rattle.std.proofs.Common.{◌≡◌, ◌≢◌, ℕ, zero, suc, ◌+◌, ◌*◌, ◌<◌, ◌≤◌, ℤ, pos, List, [], ◌∷◌, ◌++◌, length, map, get_or, set, take, drop, refl, sym, ap, ap₂, subst, ◌∙◌, arith, add-one, All, length-append}
+use Rattle.std.proofs.Common.{◌≡◌, ℕ, zero, suc, ◌+◌, ◌<◌, ◌≤◌, ℤ, pos, List, [], ◌∷◌, ◌++◌, length, map, get_or, set, take, drop, refl, sym, ap, subst, ◌∙◌, arith, add-one, length-append}
 use Rattle.std.proofs.lemmas.List.{length-map, get_or-map, get_or_append_left, get_or-append-add}
 use Rattle.exact_math.specs.Rational.{ℚ, whole, neg_ℚ}
 use Rattle.exact_math.specs.RationalRing.{rationals}
 use Rattle.exact_vectors.specs.Vectors.{negate}
 use Rattle.lp_dict.specs.Dictionaries.{none, numbers_from, slack_row}
 use Rattle.lp_dict.specs.Systems.{wholes}
-use Rattle.lp_dict.proofs.ListSteps.{written_more, written_all, read_at}
+use Rattle.lp_dict.proofs.ListSteps.{written_more, written_all}
 
 -- one more variable
 pub numbers_more : (first i : ℕ) → numbers_from first i ++ (first + i) ∷ [] ≡ numbers_from first (i + 1)

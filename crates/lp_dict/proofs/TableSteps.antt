@@ -1,11 +1,11 @@
 -- The rows of the first dictionary.
-use Rattle.std.proofs.Common.{◌≡◌, ◌≢◌, ℕ, zero, suc, ◌+◌, ◌*◌, ◌<◌, ◌≤◌, ℤ, pos, List, [], ◌∷◌, ◌++◌, length, map, get_or, set, take, drop, refl, sym, ap, ap₂, subst, ◌∙◌, arith, add-one}
+use Rattle.std.proofs.Common.{◌≡◌, ℕ, zero, suc, ◌+◌, ◌*◌, ◌<◌, ◌≤◌, ℤ, pos, List, [], ◌∷◌, ◌++◌, length, get_or, set, take, refl, sym, ap, ap₂, subst, ◌∙◌, arith}
 use Rattle.std.proofs.lemmas.List.{length-map, length-set, take_more, take_more_set, take_all}
 use Rattle.exact_math.specs.Rational.{ℚ, whole}
 use Rattle.exact_vectors.specs.Matrices.{rows_of}
 use Rattle.exact_vectors.specs.FlatMatrixLaws.{length-rows_of, rows_of-at}
 use Rattle.spaces.specs.Tables.{Table, row_at, with_row}
-use Rattle.lp_dict.specs.Dictionaries.{Dictionary, none, numbers_from, slack_row, slack_rows, first_dictionary}
+use Rattle.lp_dict.specs.Dictionaries.{none, numbers_from, slack_row, slack_rows, first_dictionary}
 use Rattle.lp_dict.specs.Systems.{wholes, whole_rows, left_sides}
 use Rattle.lp_dict.specs.Shapes.{dictionary_of, HasShape}
 use Rattle.lp_dict.proofs.FlatSteps.{rows_of-with_row, length-with_row}

@@ -1,5 +1,5 @@
 -- The condition on a system and a form under which there is a dictionary of them.
-use Rattle.std.specs.Prelude.{◌≡◌, ℕ, ◌+◌, ◌*◌, ◌≤◌, ◌^◌, ℤ, List, length}
+use Rattle.std.specs.Prelude.{◌≡◌, ◌+◌, ◌*◌, ◌≤◌, ◌^◌, ℤ, List, length}
 use Rattle.std.specs.List.{All}
 use Rattle.frac128.specs.Range.{IsNarrow}
 use Rattle.spaces.specs.Tables.{Table}

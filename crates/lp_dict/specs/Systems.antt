@@ -1,11 +1,10 @@
 -- Systems of inequalities with whole entries, and their rational points.
-use Rattle.std.specs.Prelude.{◌≡◌, ℕ, zero, suc, ◌+◌, ◌*◌, ◌≤◌, ◌^◌, ℤ, pos, List, [], ◌∷◌, ◌++◌, length, map}
-use Rattle.std.specs.List.{All, AllZip}
-use Rattle.exact_math.specs.Rational.{ℚ, whole, ◌≤ℚ◌, neg_ℚ, ◌-ℚ◌}
+use Rattle.std.specs.Prelude.{◌≡◌, ℕ, ℤ, List, [], ◌∷◌, length, map}
+use Rattle.std.specs.List.{AllZip}
+use Rattle.exact_math.specs.Rational.{ℚ, whole, ◌≤ℚ◌, ◌-ℚ◌}
 use Rattle.exact_math.specs.RationalRing.{rationals}
-use Rattle.exact_vectors.specs.Vectors.{dot, negate}
+use Rattle.exact_vectors.specs.Vectors.{dot}
 use Rattle.exact_vectors.specs.Matrices.{rows_of, times_vector}
-use Rattle.frac128.specs.Range.{IsNarrow}
 use Rattle.spaces.specs.Tables.{Table}
 
 -- whole numbers as rational numbers

@@ -1,9 +1,8 @@
-use Rattle.std.proofs.Common.{◌≡◌, refl, ℤ, pos, ◌++◌, ◌∷◌, [], map, ap, ◌∙◌, sym, subst, rules, get_or, length, take, drop, to_z-of_z}
+use Rattle.std.proofs.Common.{◌≡◌, refl, pos, rules, get_or, to_z-of_z}
 use Rattle.std.specs.Int.{w128}
 use Rattle.std.proofs.Common.{SFits}
-use Rattle.exact_math.specs.Rational.{ℚ, whole}
+use Rattle.exact_math.specs.Rational.{whole}
 use Rattle.lp_dict.specs.Dictionaries.{none}
-use Rattle.lp_dict.specs.Systems.{wholes}
 use Rattle.lp_dict.proofs.FirstSteps.{factor_more, last_written}
 use Rattle.lp_dict.proofs.first.write_form_row.Goals as goal
 

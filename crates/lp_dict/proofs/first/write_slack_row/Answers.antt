@@ -1,6 +1,6 @@
-use Rattle.std.proofs.Common.{◌≡◌, ℤ, pos, ◌∙◌, ap, refl, rules, get_or, SFits, to_z-of_z}
+use Rattle.std.proofs.Common.{◌≡◌, pos, ◌∙◌, ap, refl, rules, get_or, SFits, to_z-of_z}
 use Rattle.std.specs.Int.{w128}
-use Rattle.exact_math.specs.Rational.{ℚ, whole, neg_ℚ}
+use Rattle.exact_math.specs.Rational.{whole, neg_ℚ}
 use Rattle.lp_dict.proofs.FirstSteps.{slack_more, slack_last}
 use Rattle.lp_dict.proofs.first.write_slack_row.Goals as goal
 

@@ -1,6 +1,6 @@
-use Rattle.std.proofs.Common.{◌≡◌, ◌<◌, ◌≤◌, ℤ, pos, ◌∙◌, ap, refl, rules, arith, get_or, length, SFits, to_z-of_z}
+use Rattle.std.proofs.Common.{◌≡◌, ◌<◌, ◌≤◌, pos, ◌∙◌, ap, refl, rules, arith, get_or, SFits, to_z-of_z}
 use Rattle.std.specs.Int.{w128}
-use Rattle.exact_math.specs.Rational.{ℚ, whole}
+use Rattle.exact_math.specs.Rational.{whole}
 use Rattle.lp_dict.specs.Dictionaries.{slack_row}
 use Rattle.lp_dict.specs.Systems.{wholes}
 use Rattle.lp_dict.proofs.FlatSteps.{length-with_row}
