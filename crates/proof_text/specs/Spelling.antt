@@ -15,11 +15,14 @@ use Rattle.proof_text.specs.declared.claim.Claim.TheVariants as claims
 use Rattle.proof_text.specs.declared.claim.Record.{Record}
 use Rattle.proof_text.specs.declared.claim.Record.TheVariants as records
 
--- the words, with a blank (the byte 32) between neighbours
+-- each of the words, with a blank (the byte 32) in front of it
+abbrev pub further : List (List ℕ) → List ℕ
+further words = flat_map (λ word. 32 ∷ word) words
+
+-- the words, with a blank between neighbours
 abbrev pub in_words : List (List ℕ) → List ℕ
 in_words [] = []
-in_words (word ∷ []) = word
-in_words (word ∷ next ∷ rest) = word ++ 32 ∷ in_words (next ∷ rest)
+in_words (word ∷ rest) = word ++ further rest
 
 -- the lines, each with a line feed (the byte 10) behind it
 abbrev pub in_lines : List (List ℕ) → List ℕ

@@ -2,5 +2,8 @@
 #![tactic(auto)]
 
 mod claim;
+mod print;
 
 pub use claim::{Claim, Record};
+pub use print::{Text, print_head, print_record};
+pub use sequence::NoMemory;
