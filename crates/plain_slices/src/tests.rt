@@ -88,8 +88,11 @@ const CROSSED: Program<'static> = Program {
 };
 
 const X: &[i128] = &[1, 0];
+
 const Y: &[i128] = &[0, 1];
+
 const MINUS_X: &[i128] = &[-1, 0];
+
 const BOTH: &[i128] = &[1, 1];
 
 const CASES: &[Case<'static>] = &[
@@ -263,10 +266,8 @@ fn is_line(line: &Line, cut: Option<CutUse>, items: &[(u32, i128)]) -> bool {
     let uses = line.items.items();
     line.cut == cut
         && uses.len() == items.len()
-        && uses
-            .iter()
-            .zip(items)
-            .all(|(item, (index, times))| item.index == *index && item.times == *times)
+        && uses.iter().zip(items).all(|(item, (index, times))| item.index == *index
+            && item.times == *times)
 }
 
 fn is_expected(chosen: &Move, expected: &Expected) -> bool {
