@@ -1,3 +1,4 @@
 pub mod WorkedLines
 pub mod SideLemmas
 pub mod NumberLemmas
+pub mod LineLemmas

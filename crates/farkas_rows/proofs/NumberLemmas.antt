@@ -1,11 +1,11 @@
 -- Which inequality has which number.
-use Rattle.std.proofs.Common.{◌≡◌, ℕ, zero, suc, ◌+◌, ◌-◌, ◌*◌, ◌/◌, ◌%◌, ◌<◌, ◌≤◌, Bool, true, false, eqb, List, [], ◌∷◌, ◌++◌, length, get_or, ℤ, pos, refl, sym, ap, ◌∙◌, ⊎_elim, arith}
+use Rattle.std.proofs.Common.{◌≡◌, ℕ, zero, suc, ◌+◌, ◌-◌, ◌*◌, ◌/◌, ◌%◌, ◌<◌, ◌≤◌, Bool, true, false, eqb, List, [], ◌∷◌, ◌++◌, length, get_or, pos, refl, ap, ◌∙◌, ⊎_elim, arith}
 use Rattle.std.proofs.lemmas.Bool.{cases_eq}
 use Rattle.std.specs.Prelude.{Option, Some, None, flat_map}
 use Rattle.whole_rows.specs.declared.bounds.Bounds.{Bounds}
-use Rattle.whole_rows.specs.WholeRows.{WholeRow, WholeRows, row_at, bounds_at}
+use Rattle.whole_rows.specs.WholeRows.{WholeRows, row_at, bounds_at}
 use Rattle.farkas_rows.specs.declared.path.Slice.{Slice}
-use Rattle.farkas_rows.specs.Inequalities.{Inequality, unit, row_sides, column_bounds, slice_sides, inequalities, inequality_at}
+use Rattle.farkas_rows.specs.Inequalities.{Inequality, unit, column_bounds, inequality_at}
 use Rattle.farkas_rows.specs.Sides.{side_of_form, side_of_row}
 
 -- the second of each two is the lower side

@@ -1,7 +1,7 @@
 -- The form, the sizes and the limits of a side.
-use Rattle.std.proofs.Common.{◌≡◌, ℕ, zero, suc, ◌+◌, ◌*◌, ◌^◌, ◌<◌, ◌≤◌, List, [], ◌∷◌, length, get_or, set, ℤ, pos, negsuc, neg_ℤ, ◌+ℤ◌, ◌-ℤ◌, ◌*ℤ◌, ◌≤ℤ◌, nat_abs, refl, sym, ap, ◌∙◌, subst, below_more, ⊎_elim, arith}
+use Rattle.std.proofs.Common.{◌≡◌, ℕ, zero, suc, ◌+◌, ◌<◌, ◌≤◌, List, [], ◌∷◌, length, get_or, set, ℤ, pos, neg_ℤ, ◌+ℤ◌, ◌*ℤ◌, refl, sym, ap, ◌∙◌, subst, below_more, ⊎_elim, arith}
 use Rattle.std.specs.Prelude.{sum_by, unsigned_abs, max}
-use Rattle.std.proofs.lemmas.List.{length-replicate, get_or-set_same, get_or-set_other}
+use Rattle.std.proofs.lemmas.List.{get_or-set_same, get_or-set_other}
 use Rattle.std.proofs.lemmas.Bool.{cases_eq}
 use Rattle.std.proofs.lemmas.List.Sums.{sum_by-cons}
 use Rattle.exact_math.specs.Ring.{integers}
@@ -12,10 +12,9 @@ use Rattle.farkas_rows.specs.declared.side.Factors.{Factors}
 use Rattle.farkas_rows.specs.declared.side.Factors.TheVariants.{Unit as OfColumn}
 use Rattle.farkas_rows.specs.declared.side.Bound.{Bound}
 use Rattle.farkas_rows.specs.declared.side.Bound.TheVariants.{AtMost, Below, AtLeast}
-use Rattle.farkas_rows.specs.declared.side.Side.{Side}
-use Rattle.farkas_rows.specs.Inequalities.{Inequality, unit}
+use Rattle.farkas_rows.specs.Inequalities.{unit}
 use Rattle.farkas_rows.specs.Refutes.{inequality_weight}
-use Rattle.farkas_rows.specs.Sides.{IsFormIn, form_in, limit_of, times_form, bounded, inequality_in}
+use Rattle.farkas_rows.specs.Sides.{IsFormIn, form_in, limit_of, times_form, bounded}
 
 -- a turned form has the same sizes
 pub sizes-negate : (form : List ℤ) → sum_by unsigned_abs (negate integers form) ≡ sum_by unsigned_abs form

@@ -1,5 +1,5 @@
 -- Worked values: lines over the rows 3x + 2y <= 12 and x + 2y <= 6 with the costs -5 and -4, x and y from 0 to 10.
-use Rattle.std.proofs.Common.{◌≡◌, ℕ, ◌^◌, zero, suc, ◌+◌, ◌<◌, [], ◌∷◌, ℤ, pos, negsuc, ◌≤ℤ◌, refl, arith}
+use Rattle.std.proofs.Common.{◌≡◌, ℕ, zero, suc, ◌+◌, ◌<◌, [], ◌∷◌, ℤ, pos, negsuc, refl, arith}
 use Rattle.std.specs.Prelude.{Option, Some, None, IsSome, All, slice_index_or}
 use Rattle.std.proofs.lemmas.List.Elements.{All-nil, All-cons}
 use Rattle.exact_math.specs.IntegerRing.{linear}
@@ -7,7 +7,7 @@ use Rattle.whole_rows.specs.WholeRows.{WholeRows}
 use Rattle.farkas_rows.specs.declared.line.Use.{Use}
 use Rattle.farkas_rows.specs.declared.line.Line.{Line}
 use Rattle.farkas_rows.specs.Inequalities.{Inequality, inequalities, inequality_at, below, above}
-use Rattle.farkas_rows.specs.Refutes.{Refutes, line_weight}
+use Rattle.farkas_rows.specs.Refutes.{IsMultiplier, Refutes, line_weight}
 
 rows : WholeRows
 rows = record {
@@ -52,10 +52,6 @@ line_above = record {
 both : {X : Type 0} (P : X → Type 0) (x y : X) → P x → P y → All P (x ∷ y ∷ [])
 both P x y h k = All-cons P x (y ∷ []) h (All-cons P y [] k (All-nil P))
 
--- a multiplier in range
-abbrev IsMultiplier : ℤ → Type 0
-IsMultiplier times = (pos 1 ≤ℤ times) × (times ≤ℤ pos (2 ^ 126))
-
 -- two numbers rise
 two_rise : (a b : ℕ) → a < b → (k : ℕ) → k + 1 < 2 → slice_index_or (a ∷ b ∷ []) k 0 < slice_index_or (a ∷ b ∷ []) (k + 1) 0
 two_rise a b h zero lt = h
@@ -68,8 +64,7 @@ refutes_below = record {
   there = both (λ (item : Use). IsSome (inequality_at rows [] less item.index)) _ _ refl refl;
   in_range = All-cons IsMultiplier (pos 3) (pos 5 ∷ pos 2 ∷ []) (omega linear, omega linear) (both IsMultiplier (pos 5) (pos 2) (omega linear, omega linear) (omega linear, omega linear));
   light = omega linear;
-  vanishes = refl;
-  negative = omega linear;
+  combination = record { vanishes = refl; negative = omega linear };
 }
 
 refutes_above : Refutes rows [] more line_above
@@ -79,16 +74,15 @@ refutes_above = record {
   there = both (λ (item : Use). IsSome (inequality_at rows [] more item.index)) _ _ refl refl;
   in_range = All-cons IsMultiplier (pos 1) (pos 5 ∷ pos 6 ∷ []) (omega linear, omega linear) (both IsMultiplier (pos 5) (pos 6) (omega linear, omega linear) (omega linear, omega linear));
   light = omega linear;
-  vanishes = refl;
-  negative = omega linear;
+  combination = record { vanishes = refl; negative = omega linear };
 }
 
 -- with six times the first row the sum in x does not vanish
 six_times_does_not : Refutes rows [] less (line_below (pos 6)) → ⊥
 unfolding rows less line_below
-six_times_does_not refutes = let e = refutes.vanishes in cc
+six_times_does_not refutes = let e = refutes.combination.vanishes in cc
 
 -- the weights: 3 * 30 + 5 * 17 + 2 * 2, and 1 * 30 + 5 * 9 + 6 * 3
-weights : (line_weight rows [] less (line_below (pos 5)) ≡ pos 179) × (line_weight rows [] more line_above ≡ pos 93)
+weights_of_both : (line_weight rows [] less (line_below (pos 5)) ≡ pos 179) × (line_weight rows [] more line_above ≡ pos 93)
 unfolding rows less more line_below line_above
-weights = (refl, refl)
+weights_of_both = (refl, refl)

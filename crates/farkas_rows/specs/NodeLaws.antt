@@ -1,6 +1,6 @@
 -- Where a line refutes a node, no list of whole numbers meets the inequalities that it uses.
-use Rattle.std.proofs.Common.{◌≡◌, ℕ, zero, suc, ◌+◌, ◌^◌, ◌<◌, List, [], ◌∷◌, length, get_or, map, ℤ, pos, ◌≤ℤ◌, ◌<ℤ◌, refl, ap, ◌∙◌, arith, zero-add}
-use Rattle.std.specs.Prelude.{Option, Some, None, IfSome, All}
+use Rattle.std.proofs.Common.{◌≡◌, ℕ, zero, suc, ◌+◌, ◌<◌, List, [], ◌∷◌, length, get_or, map, ℤ, pos, ◌≤ℤ◌, ◌<ℤ◌, refl, ap, ◌∙◌, arith, zero-add}
+use Rattle.std.specs.Prelude.{Option, Some, None, IsSome, IfSome, All}
 use Rattle.std.proofs.lemmas.List.Elements.{All-head, All-tail, All-weaker}
 use Rattle.std.proofs.lemmas.List.{length-set}
 use Rattle.std.proofs.lemmas.Slice.Zip.{AllZip-long}
@@ -14,11 +14,12 @@ use Rattle.exact_vectors.specs.MatrixLaws as Matrices
 use Rattle.exact_vectors.specs.InequalityLaws.{farkas}
 use Rattle.whole_rows.specs.declared.bounds.Bounds.{Bounds}
 use Rattle.whole_rows.specs.WholeRows.{WholeRow, WholeRows, LiesIn, MeetsRow, Meets, IsWithinLimits, cut_value}
+use Rattle.farkas_rows.specs.declared.line.Use.{Use}
 use Rattle.farkas_rows.specs.declared.line.CutUse.{CutUse}
 use Rattle.farkas_rows.specs.declared.line.Line.{Line}
 use Rattle.farkas_rows.specs.declared.path.Slice.{Slice}
-use Rattle.farkas_rows.specs.Inequalities.{Inequality, IsMetBy, at_most, at_least, unit, row_sides, column_bounds, slice_sides, inequalities, cut_inequality}
-use Rattle.farkas_rows.specs.Refutes.{multipliers, used, Refutes, HasForms, IsOnPath, IsDense}
+use Rattle.farkas_rows.specs.Inequalities.{Inequality, IsMetBy, at_most, at_least, unit, row_sides, column_bounds, slice_sides, inequalities, inequality_at, cut_inequality}
+use Rattle.farkas_rows.specs.Refutes.{IsMultiplier, multipliers, used, Refutes, HasForms, IsOnPath, IsDense}
 use Rattle.farkas_rows.specs.EachInequality.{EachHas, row_sides-each, slice_sides-each, column_bounds-each, inequalities-each, used-each}
 
 -- ---- the forms have a factor for each column
@@ -113,6 +114,11 @@ at_most-of_each : (x : List ℤ) (inequalities : List Inequality) → All (IsMet
 at_most-of_each x [] h = tt
 at_most-of_each x (i ∷ rest) h = (All-head (IsMetBy x) i rest h, at_most-of_each x rest (All-tail (IsMetBy x) i rest h))
 
+-- each inequality that a line uses has a factor for each column
+pub used-dense : (rows : WholeRows) (path : List Slice) (end : Option Inequality) (line : Line) → IsWithinLimits rows → HasForms (length rows.box) path → IfSome end (IsDense (length rows.box)) → All (λ (item : Use). IsSome (inequality_at rows path end item.index)) line.items → All (IsDense (length rows.box)) (used rows path end line)
+used-dense rows path end line limits forms dense_end there =
+    used-each (IsDense (length rows.box)) rows path end line (of_side (λ (cut : CutUse). IsDense (length rows.box) (cut_inequality rows cut.value)) line.cut (λ cut. limits.priced)) there (inequalities-dense rows path end limits forms dense_end)
+
 -- a fact of the cut
 of_cut : (P Q : CutUse → Type 0) (cut : Option CutUse) → ((cut : CutUse) → P cut → Q cut) → IfSome cut P → IfSome cut Q
 of_cut P Q None f h = tt
@@ -123,7 +129,7 @@ of_cut P Q (Some cut) f h = f cut h
 pub Refutes-no_point : (rows : WholeRows) (path : List Slice) (end : Option Inequality) (line : Line) (x : List ℤ) → IsWithinLimits rows → HasForms (length rows.box) path → IfSome end (IsDense (length rows.box)) → Refutes rows path end line → Meets rows x → IsOnPath path x → IfSome end (IsMetBy x) → IfSome line.cut (λ (cut : CutUse). cut_value rows x <ℤ cut.value) → ⊥
 Refutes-no_point rows path end line x limits forms dense_end refutes meets on on_end better =
     let n = length rows.box in
-    let dense : All (IsDense n) (used rows path end line) = used-each (IsDense n) rows path end line (of_side (λ (cut : CutUse). IsDense n (cut_inequality rows cut.value)) line.cut (λ cut. limits.priced)) refutes.there (inequalities-dense rows path end limits forms dense_end) in
+    let dense : All (IsDense n) (used rows path end line) = used-dense rows path end line limits forms dense_end refutes.there in
     let met : All (IsMetBy x) (used rows path end line) = used-each (IsMetBy x) rows path end line (of_cut (λ (cut : CutUse). cut_value rows x <ℤ cut.value) (λ (cut : CutUse). IsMetBy x (cut_inequality rows cut.value)) line.cut (λ cut h. omega linear) better) refutes.there (inequalities-met rows path end x meets on on_end) in
-    let nonneg : NotNegative (multipliers line) = All-weaker (λ times. (pos 1 ≤ℤ times) × (times ≤ℤ pos (2 ^ 126))) (λ times. pos 0 ≤ℤ times) (λ times h. omega (linear, h.0)) (multipliers line) refutes.in_range in
-    farkas n (multipliers line) (map (λ (inequality : Inequality). inequality.factors) (used rows path end line)) x (map (λ (inequality : Inequality). inequality.limit) (used rows path end line)) (width-of_each n (used rows path end line) dense) nonneg refutes.vanishes refutes.negative (at_most-of_each x (used rows path end line) met)
+    let nonneg : NotNegative (multipliers line) = All-weaker IsMultiplier (λ times. pos 0 ≤ℤ times) (λ times h. omega (linear, h.0)) (multipliers line) refutes.in_range in
+    farkas n (multipliers line) (map (λ (inequality : Inequality). inequality.factors) (used rows path end line)) x (map (λ (inequality : Inequality). inequality.limit) (used rows path end line)) (width-of_each n (used rows path end line) dense) nonneg refutes.combination.vanishes refutes.combination.negative (at_most-of_each x (used rows path end line) met)

@@ -1,5 +1,7 @@
 -- The inequality that a side of a node stands for.
-use Rattle.std.specs.Prelude.{◌≡◌, ℕ, ◌<◌, ℤ, pos, ◌-ℤ◌, neg_ℤ, List, length, Bool, true, false, Option, option_map}
+use Rattle.std.specs.Prelude.{◌≡◌, ℕ, ◌^◌, ◌<◌, ◌≤◌, ℤ, pos, ◌+ℤ◌, ◌-ℤ◌, ◌*ℤ◌, neg_ℤ, List, length, map, slice_index_or, unsigned_abs, Bool, true, false, Option, option_map}
+use Rattle.exact_math.specs.Ring.{integers}
+use Rattle.exact_vectors.specs.Vectors.{dot}
 use Rattle.whole_rows.specs.WholeRows.{WholeRow}
 use Rattle.farkas_rows.specs.declared.side.Factors.{Factors}
 use Rattle.farkas_rows.specs.declared.side.Factors.TheVariants.{Dense, Unit as OfColumn}
@@ -52,3 +54,20 @@ side_of_form form low high false = at_most form high
 abbrev pub side_of_row : WholeRow → Bool → Option Inequality
 side_of_row row true = option_map (at_least row.factors) row.low
 side_of_row row false = option_map (at_most row.factors) row.high
+
+-- the factor of one column
+abbrev pub factor_of : ℕ → Inequality → ℤ
+factor_of column inequality = slice_index_or inequality.factors column (pos 0)
+
+-- the numbers on the way to sums with a multiple of the inequality added: none is above 2 to the power 126 in size
+pub record CanAdd (total : List ℤ) (times : ℤ) (inequality : Inequality) : Type 0 where
+  pub products : (j : ℕ) → j < length total → unsigned_abs (times *ℤ factor_of j inequality) ≤ 2 ^ 126
+  pub sums : (j : ℕ) → j < length total → unsigned_abs (slice_index_or total j (pos 0) +ℤ times *ℤ factor_of j inequality) ≤ 2 ^ 126
+  pub limit : unsigned_abs inequality.limit ≤ 2 ^ 126
+  pub product : unsigned_abs (times *ℤ inequality.limit) ≤ 2 ^ 126
+
+-- the left sides come to these sums with these multipliers, and the limits to this limit
+pub record ComesTo (columns : ℕ) (times : List ℤ) (inequalities : List Inequality) (total : List ℤ) (bound : ℤ) : Type 0 where
+  pub long : length total ≡ columns
+  pub sums : (j : ℕ) → j < columns → slice_index_or total j (pos 0) ≡ dot integers times (map (factor_of j) inequalities)
+  pub limit : bound ≡ dot integers times (map (λ (inequality : Inequality). inequality.limit) inequalities)

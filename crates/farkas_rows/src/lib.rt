@@ -1,12 +1,14 @@
 //! Lines: combinations of a node's inequalities that show that no point is there.
 #![tactic(auto)]
 
+mod judge;
 mod laws;
 mod line;
 mod node;
 mod path;
 mod side;
 
+pub use judge::{refutes, weigh};
 pub use laws::refuted_node_has_no_point;
 pub use line::{CutUse, End, Line, Use, Uses, Weight};
 pub use path::{Path, Slice};

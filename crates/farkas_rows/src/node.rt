@@ -1,9 +1,9 @@
 //! The inequalities of a node by their numbers.
-ghost use Rattle.std.specs.Prelude.{◌≡◌, ℕ, ◌<◌, length, Option, Some, option_map, IfSome, slice_index_or};
+ghost use Rattle.std.specs.Prelude.{◌≡◌, ℕ, ◌<◌, length, Option, Some, option_map, unwrap_or, IsSome, IfSome};
 ghost use Rattle.whole_rows.specs.WholeRows.{row_at, bounds_at};
 ghost use Rattle.farkas_rows.specs.Ends.{inequality_of};
 ghost use Rattle.farkas_rows.specs.Inequalities.{at_most, at_least, unit, inequality_at, cut_inequality};
-ghost use Rattle.farkas_rows.specs.Refutes.{HasForms, IsDense};
+ghost use Rattle.farkas_rows.specs.Refutes.{HasForms, IsDense, nothing};
 ghost use Rattle.farkas_rows.specs.Sides.{inequality_in, IsSideIn, side_of_row, side_of_form};
 
 use crate::line::End;
@@ -16,7 +16,7 @@ use whole_rows::DenseRows;
 pub(crate) fn side_at<'a>(
     rows: &'a DenseRows,
     path: &'a Path,
-    end: &End<'a>,
+    end: &'a End<'a>,
     number: u32,
 ) -> Option<Side<'a>>
     requires path { HasForms (length rows.now.box) path.now }
@@ -43,6 +43,22 @@ pub(crate) fn side_at<'a>(
     } else {
         None
     }
+}
+
+/// The inequality of a number that names one.
+pub(crate) fn named_side<'a>(
+    rows: &'a DenseRows,
+    path: &'a Path,
+    end: &'a End<'a>,
+    number: u32,
+) -> Side<'a>
+    requires path { HasForms (length rows.now.box) path.now }
+    requires end { IfSome (inequality_of end.now) (IsDense (length rows.now.box)) }
+    requires there { IsSome (inequality_at rows.now path.now (inequality_of end.now) number) }
+    ensures side { inequality_in (length rows.now.box) result ≡ unwrap_or (inequality_at rows.now path.now (inequality_of end.now) number) nothing }
+    ensures within { IsSideIn (length rows.now.box) result }
+{
+    side_at(rows, path, end, number).unwrap()
 }
 
 /// The cut with this value.

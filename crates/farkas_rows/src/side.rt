@@ -6,7 +6,7 @@ ghost use Rattle.farkas_rows.specs.Refutes.{inequality_weight};
 use crate::line::Weight;
 
 /// The weight that a line passes nowhere: 2 to the power 126.
-pub(crate) const HEAVIEST: u128 = 1 << 126;
+pub(crate) const HEAVIEST: i128 = 1 << 126;
 
 /// The factors of a form: one for each column, or the form that is the value of one column.
 #[derive(Clone, Copy, Debug, Drop)]
@@ -31,7 +31,7 @@ pub(crate) struct Side<'a> {
 }
 
 impl Side<'_> {
-    ghost use Rattle.farkas_rows.specs.Sides.{inequality_in, IsSideIn};
+    ghost use Rattle.farkas_rows.specs.Sides.{CanAdd, factor_of, inequality_in, IsSideIn};
 
     /// The weight of the inequality.
     pub(crate) fn weight(&self) -> Weight
@@ -41,22 +41,23 @@ impl Side<'_> {
             return Weight::Above;
         };
         let weight = (size + self.bound.size()).max(1);
-        if weight > HEAVIEST {
+        if weight > HEAVIEST as u128 {
             Weight::Above
         } else {
             Weight::Within(weight as i128)
         }
     }
 
-    /// Adds the factors of the inequality, so many times, to the sums of the columns.
-    pub(crate) fn add_to(&self, times: i128, sums: &mut [i128])
+    /// Adds the inequality, so many times, to the sums of the columns, and answers what it adds to the limit.
+    pub(crate) fn add_to(&self, times: i128, sums: &mut [i128]) -> i128
         requires side { IsSideIn (length sums.old) self.now }
         requires times { (pos 0 ≤ℤ times) × (times ≤ℤ pos (2 ^ 126)) }
-        requires products { (j : ℕ) → j < length sums.old → unsigned_abs (times *ℤ slice_index_or (inequality_in (length sums.old) self.now).factors j (pos 0)) ≤ 2 ^ 126 }
-        requires sums { (j : ℕ) → j < length sums.old → unsigned_abs (slice_index_or sums.old j (pos 0) +ℤ times *ℤ slice_index_or (inequality_in (length sums.old) self.now).factors j (pos 0)) ≤ 2 ^ 126 }
-        ensures { (j : ℕ) → j < length sums.old → slice_index_or sums.new j (pos 0) ≡ slice_index_or sums.old j (pos 0) +ℤ times *ℤ slice_index_or (inequality_in (length sums.old) self.now).factors j (pos 0) }
+        requires room { CanAdd sums.old times (inequality_in (length sums.old) self.now) }
+        ensures sums { (j : ℕ) → j < length sums.old → slice_index_or sums.new j (pos 0) ≡ slice_index_or sums.old j (pos 0) +ℤ times *ℤ factor_of j (inequality_in (length sums.old) self.now) }
+        ensures limit { result ≡ times *ℤ (inequality_in (length sums.old) self.now).limit }
     {
         self.factors.add_to(self.bound.signed(times), sums);
+        times * self.bound.limit()
     }
 }
 
@@ -92,7 +93,7 @@ impl Bound {
     ghost use Rattle.farkas_rows.specs.Sides.{limit_of, times_form};
 
     /// The limit of the inequality.
-    pub(crate) fn limit(self) -> i128
+    fn limit(self) -> i128
         requires { unsigned_abs (limit_of self) ≤ 2 ^ 126 }
         ensures { result ≡ limit_of self }
     {
@@ -141,7 +142,7 @@ fn size_of(form: &[i128]) -> Option<u128>
     let mut size = 0;
     for factor in form {
         size += factor.unsigned_abs();
-        if size > HEAVIEST {
+        if size > HEAVIEST as u128 {
             return None;
         }
     }

@@ -11,8 +11,8 @@ use Rattle.exact_math.specs.Ring.{integers}
 use Rattle.exact_math.specs.IntegerRing.{linear, add_assoc}
 use Rattle.exact_math.specs.IntegerOrder.{abs_mul, abs_add_le, mul_le, mul_le_reversed}
 use Rattle.exact_vectors.specs.Vectors.{dot}
-use Rattle.int_model.specs.declared.bounds.Bounds.{Bounds}
-use Rattle.int_model.specs.WholeRows.{LiesIn, reach, span}
+use Rattle.whole_rows.specs.declared.bounds.Bounds.{Bounds}
+use Rattle.whole_rows.specs.WholeRows.{LiesIn, reach, span}
 use Rattle.plain_slices.specs.declared.ends.End.{End}
 use Rattle.plain_slices.specs.declared.ends.End.TheVariants.{Least, Greatest}
 use Rattle.plain_slices.specs.Slices.{AllFixed, lows}

@@ -4,3 +4,9 @@ pub mod ItemLaws
 pub mod UnitLaws
 pub mod NumberLaws
 pub mod NodeSteps
+pub mod BitLaws
+pub mod BalanceLaws
+pub mod SideLaws
+pub mod RefuteLaws
+pub mod ShutLaws
+pub mod HasSideLaws

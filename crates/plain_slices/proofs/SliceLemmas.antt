@@ -7,8 +7,8 @@ use Rattle.exact_math.specs.Ring.{integers}
 use Rattle.exact_math.specs.IntegerRing.{linear}
 use Rattle.exact_math.specs.IntegerOrder.{le_trans}
 use Rattle.exact_vectors.specs.Vectors.{dot}
-use Rattle.int_model.specs.declared.bounds.Bounds.{Bounds}
-use Rattle.int_model.specs.WholeRows.{WholeRow, WholeRows, LiesIn, MeetsRow, Meets, reach, span}
+use Rattle.whole_rows.specs.declared.bounds.Bounds.{Bounds}
+use Rattle.whole_rows.specs.WholeRows.{WholeRow, WholeRows, LiesIn, MeetsRow, Meets, reach, span}
 use Rattle.plain_slices.specs.declared.ends.End.TheVariants.{Least, Greatest}
 use Rattle.plain_slices.specs.Slices.{IsSlice, IsNarrowed, AllFixed, lows}
 use Rattle.plain_slices.specs.Ends.{sum_at, ReachesSides}

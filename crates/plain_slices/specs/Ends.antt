@@ -1,6 +1,6 @@
 -- The least and the greatest sum of a row over a box.
 use Rattle.std.specs.Prelude.{ℤ, pos, ◌+ℤ◌, ◌*ℤ◌, ◌≤ℤ◌, int_lt, if◌then◌else◌, List, [], ◌∷◌, Option, IfSome}
-use Rattle.int_model.specs.declared.bounds.Bounds.{Bounds}
+use Rattle.whole_rows.specs.declared.bounds.Bounds.{Bounds}
 use Rattle.plain_slices.specs.declared.ends.End.{End}
 use Rattle.plain_slices.specs.declared.ends.End.TheVariants.{Least, Greatest}
 

@@ -3,3 +3,5 @@ pub mod Ends
 pub mod Items
 pub mod Shut
 pub mod Nodes
+pub mod Sides
+pub mod NodeViews

@@ -1,7 +1,7 @@
 -- Boxes that are narrowed by fixing columns.
 use Rattle.std.specs.Prelude.{◌≡◌, ◌⊎◌, ℤ, ◌≤ℤ◌, List, map, All}
 use Rattle.std.specs.List.{AllZip}
-use Rattle.int_model.specs.declared.bounds.Bounds.{Bounds}
+use Rattle.whole_rows.specs.declared.bounds.Bounds.{Bounds}
 
 -- the same bounds, or one value between them
 abbrev pub IsSlice : Bounds → Bounds → Type 0

@@ -1,9 +1,9 @@
 //! Whether a row can be met within a box, by the least and the greatest sum that it has there.
 ghost use Rattle.std.specs.Prelude.{◌≡◌, ◌^◌, ◌≤◌, ◌↔◌, length, IsTrue};
-ghost use Rattle.int_model.specs.WholeRows.{span};
+ghost use Rattle.whole_rows.specs.WholeRows.{span};
 ghost use Rattle.plain_slices.specs.Ends.{ReachesSides};
 
-use int_model::Bounds;
+use whole_rows::Bounds;
 
 /// One of the two ends of a row's sums over a box.
 #[derive(Clone, Copy, Debug, PartialEq, Eq, Drop)]

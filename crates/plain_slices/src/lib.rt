@@ -2,7 +2,11 @@
 #![tactic(auto)]
 
 mod ends;
+mod refute;
 mod search;
+mod side;
+mod items;
+mod lines;
 mod node;
 mod single;
 #[cfg(test)]

@@ -1,17 +1,17 @@
 //! The search by slices: one column after another is fixed at each of its values.
 ghost use Rattle.std.specs.Prelude.{◌≡◌, ℤ, ◌≤◌, List, length, take, All, IfOk, MatchOption};
 ghost use Rattle.std.specs.Bool.{OnTrue, OnFalse};
-ghost use Rattle.int_model.specs.WholeRows.{LiesIn, Meets, MeetsRow};
+ghost use Rattle.whole_rows.specs.WholeRows.{LiesIn, Meets, MeetsRow};
 ghost use Rattle.plain_slices.specs.Slices.{IsNarrowed, AllFixed, lows};
 
 use crate::ends::reaches_sides;
-use int_model::{Bounds, IntRows};
 use sequence::NoMemory;
 use std::alloc::Global;
+use whole_rows::{Bounds, DenseRows};
 
 /// Some point of the rows, or none where there is none. Its time grows with the number of slices: for each column, at
 /// most the product of the numbers of values of that column and of those before it.
-pub fn plain_point(alloc: Global, rows: &IntRows) -> Result<Option<Vec<i128>>, NoMemory>
+pub fn plain_point(alloc: Global, rows: &DenseRows) -> Result<Option<Vec<i128>>, NoMemory>
     ensures { IfOk result (λ found. MatchOption found ((x : List ℤ) → Meets rows.now x → ⊥) (λ point. Meets rows.now point.items)) }
 {
     let mut bounds = box_of(alloc, rows)?;
@@ -22,7 +22,7 @@ pub fn plain_point(alloc: Global, rows: &IntRows) -> Result<Option<Vec<i128>>, N
 }
 
 /// The bounds of the columns.
-fn box_of(alloc: Global, rows: &IntRows) -> Result<Vec<Bounds>, NoMemory>
+fn box_of(alloc: Global, rows: &DenseRows) -> Result<Vec<Bounds>, NoMemory>
     ensures { IfOk result (λ bounds. bounds.items ≡ rows.now.box) }
 {
     let mut bounds = Vec::new(alloc);
@@ -45,7 +45,7 @@ fn lows_of(alloc: Global, bounds: &[Bounds]) -> Result<Vec<i128>, NoMemory>
 
 /// Looks for a point within `bounds`, of which the columns before `column` are fixed. Where it finds one,
 /// `bounds` are fixed at the point.
-fn find_point(rows: &IntRows, bounds: &mut [Bounds], column: usize) -> bool
+fn find_point(rows: &DenseRows, bounds: &mut [Bounds], column: usize) -> bool
     requires column { column ≤ length rows.now.box }
     requires narrowed { IsNarrowed rows.now.box bounds.old }
     requires fixed { AllFixed (take column bounds.old) }
@@ -74,7 +74,7 @@ fn find_point(rows: &IntRows, bounds: &mut [Bounds], column: usize) -> bool
 }
 
 /// Whether the sums of each row over `bounds` reach its sides.
-fn can_meet_rows(rows: &IntRows, bounds: &[Bounds]) -> bool
+fn can_meet_rows(rows: &DenseRows, bounds: &[Bounds]) -> bool
     requires { IsNarrowed rows.now.box bounds.now }
     ensures none { OnFalse result ((x : List ℤ) → LiesIn bounds.now x → Meets rows.now x → ⊥) }
     ensures point { OnTrue result (AllFixed bounds.now → All (λ row. MeetsRow row (lows bounds.now)) rows.now.rows) }

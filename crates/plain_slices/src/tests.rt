@@ -169,7 +169,7 @@ fn finds_the_known_points(rt: HostRuntime) -> Result<(), Fail> {
         assert!(rt; case.bounds.len() <= 256);
         assert!(rt; case.equations.len() <= 256);
         let rows = rows_of(rt.alloc(), case.bounds, case.equations)?;
-        let found = plain_point(rt.alloc(), &rows)?;
+        let found = plain_point(rt.alloc(), rows.whole())?;
         assert_eq!(rt; found.as_ref().map(|point| point.as_slice()), case.point);
     }
     Ok(())

@@ -1,0 +1,7 @@
+pub mod Finding
+pub mod Nodes
+pub mod Parts
+pub mod Settling
+pub mod Slices
+pub mod Values
+pub mod Wholes

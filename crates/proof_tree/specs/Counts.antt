@@ -1,5 +1,5 @@
 -- How large a tree is.
-use Rattle.std.specs.Prelude.{ℕ, ◌+◌, ◌⊎◌}
+use Rattle.std.specs.Prelude.{ℕ, zero, suc, ◌+◌, ◌*◌}
 use Rattle.proof_tree.specs.declared.tree.Mark.{Mark}
 use Rattle.proof_tree.specs.declared.tree.Mark.TheVariants.{Thin, Plain}
 use Rattle.proof_tree.specs.declared.tree.Tree as tree
@@ -52,13 +52,18 @@ abbrev mutual
   plain_splits_of_parts part.end_of-PartTree = 0
   plain_splits_of_parts (part.more_of-PartTree child rest) = plain_splits_of_part child + plain_splits_of_parts rest
 
--- some node of the part is open
+-- the open runs of a part of a tree
 abbrev mutual
-  pub IsOpen : part.PartTree → Type 0
-  IsOpen (part.Open count) = Unit {0}
-  IsOpen (part.Empty line) = ⊥
-  IsOpen (part.Split' _ _ _ children) = SomeIsOpen children
+  pub open_runs : part.PartTree → ℕ
+  open_runs (part.Open count) = 1
+  open_runs (part.Empty line) = 0
+  open_runs (part.Split' _ _ _ children) = open_runs_of_each children
 
-  pub SomeIsOpen : {m : _} → part.Row_of-PartTree m → Type 0
-  SomeIsOpen part.end_of-PartTree = ⊥
-  SomeIsOpen (part.more_of-PartTree child rest) = IsOpen child ⊎ SomeIsOpen rest
+  pub open_runs_of_each : {m : _} → part.Row_of-PartTree m → ℕ
+  open_runs_of_each part.end_of-PartTree = 0
+  open_runs_of_each (part.more_of-PartTree child rest) = open_runs child + open_runs_of_each rest
+
+-- how many nodes a tree has at most of which no path has more than this many slices, and no split more than w + 1
+abbrev pub nodes_within : ℕ → ℕ → ℕ
+nodes_within w zero = 1
+nodes_within w (suc slices) = 1 + (w + 1) * nodes_within w slices

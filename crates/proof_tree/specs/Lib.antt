@@ -1,5 +1,9 @@
 pub mod Counts
+pub mod Follows
+pub mod Found
 pub mod Moves
 pub mod PartTrees
+pub mod Search
 pub mod Soundness
 pub mod Trees
+pub mod Whole

@@ -4,7 +4,10 @@
 mod brancher;
 mod laws;
 mod tree;
+mod walk;
+mod whole;
 
 pub use brancher::Brancher;
 pub use laws::holding_tree_is_sound;
 pub use tree::{Cut, Forest, Mark, Move, PartSplit, PartTree, Searched, Split, Tree};
+pub use walk::search;

@@ -1,8 +1,9 @@
 -- From what the parts of a run answer to what the run answers.
-use Rattle.std.proofs.Common.{◌≡◌, ◌⊎◌, ⊎_elim, inl, inr, ◌≤◌, ℕ, List, Option, Some, None, refl, sym, ap, subst, ◌∙◌}
+use Rattle.std.proofs.Common.{◌≡◌, ◌⊎◌, ⊎_elim, inl, inr, ◌≤◌, ℕ, List, [], Option, Some, None, refl, sym, ap, subst, ◌∙◌, arith}
 use Rattle.std.specs.Prelude.{option_map, IfSome}
 use Rattle.std.proofs.lemmas.Option.{same_Some, none-some}
-use Rattle.desk_io.specs.Desk.{Rose, appended, AppendsSome, Same}
+use Rattle.desk_io.specs.Desk.{Fault, fault, Rose, appended, AppendsSome, Same}
+use Rattle.desk_io.specs.declared.desk.Call.TheVariants.{Take, Say}
 use Rattle.desk_io.specs.AppendLaws.{appends_all}
 use Rattle.desk_io.specs.FaultLaws.{rose_after}
 use Rattle.solve_cli.specs.declared.status.Status.{Status}
@@ -10,8 +11,8 @@ use Rattle.solve_cli.specs.declared.status.Status.TheVariants.{Optimal, Infeasib
 use Rattle.solve_cli.specs.Words.{Solve, command_of}
 use Rattle.solve_cli.specs.Report.{report_of}
 use Rattle.solve_cli.specs.Verdict.{Verdict}
-use Rattle.solve_cli.specs.Answer.{Given, Faults, JudgesText, Reason, SaysSome, Answer, IsJudged, TakesInput, Gives, IsComplete}
-use Rattle.solve_cli.specs.Solving.{IsSaid}
+use Rattle.solve_cli.specs.Answer.{Given, Faults, JudgesText, Reason, SaysSome, Answer, IsJudged, IsCalm, KeepsFaults, FailedInSay, TakesInput, Gives, IsComplete}
+use Rattle.solve_cli.specs.Solving.{IsSaid, FailsInTake}
 
 -- ---- the answer
 
@@ -53,6 +54,31 @@ pub run_answers : (given : Given) (faults now : Faults) (status result : Status)
 run_answers given faults now status result lines report start before after later is_text same reason said =
     subst (λ b. Answer given now b after result) same
     (answers given faults now status result lines before after later reason (subst (λ text. IsSaid text status faults now before after result) is_text said))
+
+-- ---- the faults
+
+module _ (start between now : Faults) (status result : Status) (report : List ℕ) (before after : Option (List ℕ)) (said : IsSaid report status between now before after result) where
+  -- a status that tells no fault leaves the faults as they were
+  pub calm_said : (IsCalm status → KeepsFaults start between) → IsCalm result → KeepsFaults start now
+  calm_said kept calm =
+      ⊎_elim (λ whole. whole.2 ∙ kept (subst IsCalm whole.0 calm))
+      (⊎_elim (λ failed. absurd (subst IsCalm failed.0 calm)) (λ full. absurd (subst IsCalm full.0 calm)))
+      said.outcome
+
+  -- before the say the desk failed in takes alone
+  no_say : FailsInTake start between → now ≡ between → FailedInSay start now → ⊥
+  no_say taken same failed =
+      ⊎_elim (λ kept. let count : now.count ≡ start.count = ap (λ (f : Faults). f.count) (same ∙ kept) in omega (arith, count, failed.more))
+      (λ take. let last : Some (fault Take take.0) ≡ Some (fault Say []) = sym take.1 ∙ sym (ap (λ (f : Faults). f.last) same) ∙ failed.last in
+      let calls : Take ≡ Say = ap (λ (f : Fault). f.call) (same_Some (fault Take take.0) (fault Say []) last) in cc)
+      taken
+
+  -- where the last fault of the run is a say, the status tells it
+  pub last_said : FailsInTake start between → FailedInSay start now → result ≡ WriteFault
+  last_said taken failed =
+      ⊎_elim (λ whole. absurd (no_say taken whole.2 failed))
+      (⊎_elim (λ faulty. faulty.0) (λ full. absurd (no_say taken full.2 failed)))
+      said.outcome
 
 -- ---- the inputs
 

@@ -13,9 +13,8 @@ use Rattle.int_model.specs.Large.{IsFirstLarge}
 use Rattle.solve_cli.specs.declared.status.Input.TheVariants.{ModelText}
 use Rattle.solve_cli.specs.declared.status.Status.{Status}
 use Rattle.solve_cli.specs.declared.status.Status.TheVariants.{Optimal, Infeasible, Words, Text, TooLong, Large, ReadFault, WriteFault, NoMemory}
-use Rattle.solve_cli.specs.declared.words.Options.{Options}
 use Rattle.solve_cli.specs.declared.program.Reply.{Reply}
-use Rattle.solve_cli.specs.Words.{Solve, command_of}
+use Rattle.solve_cli.specs.Words.{Options, Solve, command_of}
 use Rattle.solve_cli.specs.Limits.{most_bytes, most_taken}
 use Rattle.solve_cli.specs.Report.{report_of, IsPartOf}
 use Rattle.solve_cli.specs.Verdict.{Solves, States, Verdict}

@@ -3,13 +3,13 @@ use Rattle.std.proofs.Common.{◌≡◌, ◌⊎◌, ⊎_elim, inl, inr, ℕ, ◌
 use Rattle.std.specs.Prelude.{Result, Ok, Err}
 use Rattle.int_model.specs.declared.part.Part.{Part}
 use Rattle.int_model.specs.declared.model.Model.{Model}
-use Rattle.int_model.proofs.FirstLargeLaws.{first_large_is_one}
+use Rattle.int_model.specs.FirstLargeLaws.{first_large_is_one}
 use Rattle.mps_model.specs.declared.fault.TextFault.{TextFault}
 use Rattle.mps_model.specs.Meaning.{meaning}
 use Rattle.solve_cli.specs.declared.status.Input.TheVariants.{ModelText}
 use Rattle.solve_cli.specs.declared.status.Status.{Status}
 use Rattle.solve_cli.specs.declared.status.Status.TheVariants.{Optimal, Infeasible, Words, Text, TooLong, Large, ReadFault, WriteFault, NoMemory}
-use Rattle.solve_cli.specs.declared.words.Options.{Options}
+use Rattle.solve_cli.specs.Words.{Options}
 use Rattle.solve_cli.specs.Limits.{most_bytes}
 use Rattle.solve_cli.specs.Verdict.{FindsBest, FindsNone, FindsLarge, Solves, States, StatesObjective, IsSearched, IsRefused, IsTooLong, unbuilt, Verdict}
 

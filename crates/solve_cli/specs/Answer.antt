@@ -1,11 +1,10 @@
 -- When a run answers which status, and what it says then.
-use Rattle.std.specs.Prelude.{◌≡◌, ◌⊎◌, ◌≤◌, ℕ, List, [], ◌∷◌, drop, codes, Option, Some, None, option_map, IfSome}
+use Rattle.std.specs.Prelude.{◌≡◌, ◌⊎◌, ◌≤◌, ◌<◌, ℕ, List, [], ◌∷◌, drop, codes, Option, Some, None, option_map, IfSome}
 use Rattle.desk_io.specs.Desk.{Fault, fault, appended, AppendsSome, Same, SameButAt, Rose}
 use Rattle.desk_io.specs.declared.desk.Call.TheVariants.{Take, Say}
 use Rattle.solve_cli.specs.declared.status.Status.{Status}
 use Rattle.solve_cli.specs.declared.status.Status.TheVariants.{Optimal, Infeasible, Words, Text, TooLong, Large, ReadFault, WriteFault, NoMemory}
-use Rattle.solve_cli.specs.declared.words.Options.{Options}
-use Rattle.solve_cli.specs.Words.{Solve, command_of}
+use Rattle.solve_cli.specs.Words.{Options, Solve, command_of}
 use Rattle.solve_cli.specs.Limits.{most_taken}
 use Rattle.solve_cli.specs.Report.{report_of}
 use Rattle.solve_cli.specs.Verdict.{Verdict}
@@ -16,10 +15,17 @@ pub record Given : Type 0 where
   pub left : List ℕ → Option (List ℕ)
   pub faults : ℕ
 
+-- what a run was given, by its parts
+abbrev pub run_given : List (List ℕ) → (List ℕ → Option (List ℕ)) → ℕ → Given
+run_given words left faults = record { words = words; left = left; faults = faults }
+
 -- how often the desk had failed by then, and its last fault
 pub record Faults : Type 0 where
   pub count : ℕ
   pub last : Option Fault
+
+abbrev pub desk_faults : ℕ → Option Fault → Faults
+desk_faults count last = record { count = count; last = last }
 
 -- the words are a command, and under its options this is the verdict on the bytes that were left of MODEL: on those
 -- that the desk tells, or where it tells none on some bytes
@@ -94,6 +100,27 @@ IsJudged Words = ⊥
 IsJudged ReadFault = ⊥
 IsJudged WriteFault = ⊥
 IsJudged NoMemory = ⊥
+
+-- neither a fault nor want of memory is what the status tells
+abbrev pub IsCalm : Status → Type 0
+IsCalm Words = Unit {0}
+IsCalm Optimal = IsJudged Optimal
+IsCalm Infeasible = IsJudged Infeasible
+IsCalm (Text fault) = IsJudged (Text fault)
+IsCalm (TooLong input) = IsJudged (TooLong input)
+IsCalm (Large part) = IsJudged (Large part)
+IsCalm ReadFault = ⊥
+IsCalm WriteFault = ⊥
+IsCalm NoMemory = ⊥
+
+-- the desk's faults are as they were before
+abbrev pub KeepsFaults : Faults → Faults → Type 0
+KeepsFaults before now = now ≡ before
+
+-- the desk failed in this run, and last in a say
+pub record FailedInSay (before now : Faults) : Type 0 where
+  pub more : before.count < now.count
+  pub last : now.last ≡ Some (fault Say [])
 
 -- which inputs were taken: none without a command, and else at most MODEL, to its end or one byte past the limit on
 -- the bytes of a text where the text was judged

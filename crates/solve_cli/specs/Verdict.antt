@@ -10,7 +10,7 @@ use Rattle.mps_model.specs.Meaning.{meaning}
 use Rattle.solve_cli.specs.declared.status.Input.TheVariants.{ModelText}
 use Rattle.solve_cli.specs.declared.status.Status.{Status}
 use Rattle.solve_cli.specs.declared.status.Status.TheVariants.{Optimal, Infeasible, Words, Text, TooLong, Large, ReadFault, WriteFault, NoMemory}
-use Rattle.solve_cli.specs.declared.words.Options.{Options}
+use Rattle.solve_cli.specs.Words.{Options}
 use Rattle.solve_cli.specs.Limits.{most_bytes}
 use Rattle.solve_cli.specs.Report.{optimal_lines, limit_line, text_line}
 

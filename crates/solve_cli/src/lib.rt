@@ -12,7 +12,7 @@ mod words_law;
 pub use program::run;
 pub use status::{Input, Status};
 pub use verdict_law::one_status_is_given;
-pub use words::{Command, FileName, Options, WordsStop, read_words};
+pub use words::{Command, FileName, WordsStop, read_words};
 pub use words_law::command_is_spelled;
 
 #[cfg(test)]

@@ -1,7 +1,7 @@
 //! What a text gives. The function here does nothing; its contract carries the law.
 ghost use Rattle.std.specs.Prelude.{◌≡◌, ℕ, List};
 ghost use Rattle.solve_cli.specs.declared.status.Status.{Status};
-ghost use Rattle.solve_cli.specs.declared.words.Options.{Options};
+ghost use Rattle.solve_cli.specs.Words.{Options};
 ghost use Rattle.solve_cli.specs.Answer.{Gives};
 
 /// Under the same options a text gives one status at most, so a run answers each of them exactly where its cause holds,

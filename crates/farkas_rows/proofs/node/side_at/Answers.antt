@@ -1,5 +1,5 @@
 use Rattle.std.specs.Prelude.{Some}
-use Rattle.std.proofs.Common.{◌≡◌, ◌+◌, ◌-◌, ◌/◌, ◌<◌, ◌≤◌, length, sym, ap, ◌∙◌, subst, arith}
+use Rattle.std.proofs.Common.{◌+◌, ◌/◌, ◌≤◌, length, sym, ap, ◌∙◌, arith}
 use Rattle.farkas_rows.specs.declared.path.Slice.{Slice}
 use Rattle.farkas_rows.specs.Sides.{side_of_form}
 use Rattle.farkas_rows.specs.Ends.{inequality_of}

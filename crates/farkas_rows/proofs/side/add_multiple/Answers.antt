@@ -1,7 +1,6 @@
-use Rattle.std.proofs.Common.{rules, ◌≡◌, ℕ, ◌^◌, ◌+◌, ◌<◌, ◌≤◌, length, get_or, set, pos, ◌+ℤ◌, ◌*ℤ◌, FitsSigned, nat_abs, ap, ◌∙◌, sym, subst, arith, below_more}
+use Rattle.std.proofs.Common.{rules, ◌<◌, length, get_or, pos, ◌+ℤ◌, ◌*ℤ◌, FitsSigned, arith}
 use Rattle.std.specs.Int.{w128}
 use Rattle.std.proofs.lemmas.Int.{to_z-of_z, fits_signed_from_abs}
-use Rattle.std.proofs.lemmas.List.{get_or-set_same, get_or-set_other}
 use Rattle.farkas_rows.proofs.SideLemmas.{added-more, left-more}
 use Rattle.farkas_rows.proofs.side.add_multiple.Goals as goal
 

@@ -4,7 +4,7 @@ use Rattle.std.specs.List.{All}
 use Rattle.std.proofs.lemmas.Bool.{both_ways}
 use Rattle.std.proofs.lemmas.List.{take_all}
 use Rattle.std.proofs.lemmas.List.Elements.{All-more, All-get_or, All-weaker}
-use Rattle.int_model.specs.WholeRows.{WholeRow, MeetsRow, row_at}
+use Rattle.whole_rows.specs.WholeRows.{WholeRow, MeetsRow, row_at}
 use Rattle.plain_slices.specs.Slices.{lows}
 use Rattle.plain_slices.specs.Ends.{ReachesSides}
 use Rattle.plain_slices.proofs.SliceLemmas.{span-narrowed, ReachesSides-read, ReachesSides-of, MeetsRow-fixed}

@@ -1,6 +1,6 @@
 use Rattle.std.proofs.Common.{take}
 use Rattle.std.specs.List.{All}
-use Rattle.int_model.specs.WholeRows.{WholeRow}
+use Rattle.whole_rows.specs.WholeRows.{WholeRow}
 use Rattle.plain_slices.specs.Ends.{ReachesSides}
 use Rattle.plain_slices.proofs.search.can_meet_rows.Given as goal
 

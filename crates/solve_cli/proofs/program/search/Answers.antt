@@ -2,7 +2,7 @@ use Rattle.std.proofs.Common.{◌≡◌, [], ◌∷◌, refl, sym, ap, ◌∙◌
 use Rattle.std.specs.Prelude.{codes, Err}
 use Rattle.std.proofs.lemmas.Option.{MatchOption-at_some, MatchOption-at_none}
 use Rattle.int_model.specs.Points.{value_at}
-use Rattle.int_model.specs.WholeRows.{value_in}
+use Rattle.int_model.specs.IntegerRows.{value_in}
 use Rattle.int_model.specs.Large.{IsFirstLarge}
 use Rattle.solve_cli.specs.declared.status.Status.TheVariants.{Infeasible, Large}
 use Rattle.solve_cli.specs.Report.{report_of, limit_line, optimal_lines}
@@ -26,7 +26,7 @@ returns-in-Err-Large c =
 
 pub returns-in_default : goal.returns-in_default
 returns-in_default c =
-    let none = MatchOption-at_none _ _ c.in_default.is c.in_ok-point.ensures in
+    let none = MatchOption-at_none _ _ c.in_default.is (rw c.whole.ensures at c.in_ok-point.ensures) in
     replied_by (Solves c.args.model.now) Infeasible (codes "INFEASIBLE" ∷ []) c.line_reply.result
     (record { small = c.in-Ok.ensures.small; none = λ x point. none x ((c.in-Ok.ensures.points x).0 point); report = refl })
     c.line_reply.ensures.status c.line_reply.ensures.report
@@ -35,7 +35,7 @@ pub returns : goal.returns
 returns c =
     let model = c.args.model.now in
     let point = c.in-Some.point.items in
-    let meets = MatchOption-at_some _ _ c.in-Some.point c.in-Some.is c.in_ok-point.ensures in
+    let meets = MatchOption-at_some _ _ c.in-Some.point c.in-Some.is (rw c.whole.ensures at c.in_ok-point.ensures) in
     let is_point = (c.in-Ok.ensures.points point).1 meets in
     let value : c.value-value.result ≡ value_at model point =
     c.value-value.ensures ∙ ap (value_in c.in-Ok.rows) c.deref.ensures.value ∙ sym (c.in-Ok.ensures.values point is_point) in (

@@ -1,4 +1,4 @@
-use Rattle.std.proofs.Common.{rules, ◌≡◌, get_or, pos, ◌+ℤ◌, ◌*ℤ◌, FitsSigned, ap, subst, arith}
+use Rattle.std.proofs.Common.{rules, get_or, pos, ◌+ℤ◌, FitsSigned}
 use Rattle.std.specs.Int.{w128}
 use Rattle.std.proofs.lemmas.Int.{to_z-of_z, fits_signed_from_abs}
 use Rattle.exact_math.specs.IntegerRing.{linear, mul_one}

@@ -1,6 +1,6 @@
-use Rattle.std.proofs.Common.{rules, ◌≡◌, ℕ, ◌^◌, ◌<◌, ◌≤◌, length, get_or, pos, ◌+ℤ◌, ◌*ℤ◌, FitsSigned, nat_abs, refl}
+use Rattle.std.proofs.Common.{rules, length, FitsSigned, refl}
 use Rattle.std.specs.Int.{w128}
-use Rattle.std.proofs.lemmas.Int.{to_z-of_z, fits_signed_from_abs}
+use Rattle.std.proofs.lemmas.Int.{to_z-of_z}
 use Rattle.farkas_rows.specs.Sides.{form_in}
 use Rattle.farkas_rows.proofs.SideLemmas.{times-bounded}
 use Rattle.farkas_rows.proofs.side.Side.add_to.Goals as goal
@@ -10,17 +10,17 @@ add_to-requires-clause-products c =
     let times_fits : FitsSigned w128 c.args.times = search rules in
     let signed_fits : FitsSigned w128 c.signed.result = search rules in
     let signed = simp to_z-of_z at c.signed.ensures in
-    simp to_z-of_z (λ j lt. rw (signed, ← times-bounded (form_in (length c.args.sums.now) c.args.self.now.factors) c.args.self.now.bound c.args.times j) (c.requires.products j lt))
+    simp to_z-of_z (λ j lt. rw (signed, ← times-bounded (form_in (length c.args.sums.now) c.args.self.now.factors) c.args.self.now.bound c.args.times j) (c.requires.room.products j lt))
 
 pub add_to-requires-clause-sums : goal.add_to-requires-clause-sums
 add_to-requires-clause-sums c =
     let times_fits : FitsSigned w128 c.args.times = search rules in
     let signed_fits : FitsSigned w128 c.signed.result = search rules in
     let signed = simp to_z-of_z at c.signed.ensures in
-    simp to_z-of_z (λ j lt. rw (signed, ← times-bounded (form_in (length c.args.sums.now) c.args.self.now.factors) c.args.self.now.bound c.args.times j) (c.requires.sums j lt))
+    simp to_z-of_z (λ j lt. rw (signed, ← times-bounded (form_in (length c.args.sums.now) c.args.self.now.factors) c.args.self.now.bound c.args.times j) (c.requires.room.sums j lt))
 
-pub returns : goal.returns
-returns c =
+pub returns-clause-sums : goal.returns-clause-sums
+returns-clause-sums c =
     let times_fits : FitsSigned w128 c.args.times = search rules in
     let signed_fits : FitsSigned w128 c.signed.result = search rules in
     let signed = simp to_z-of_z at c.signed.ensures in
