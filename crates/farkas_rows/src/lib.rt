@@ -13,3 +13,6 @@ pub use laws::refuted_node_has_no_point;
 pub use line::{CutUse, End, Line, Use, Uses, Weight};
 pub use path::{Path, Slice};
 pub use sequence::NoMemory;
+
+#[cfg(test)]
+mod tests;

@@ -1,14 +1,14 @@
 -- One column more is balanced by the bound at which its product is least.
-use Rattle.std.proofs.Common.{◌≡◌, ◌≢◌, ◌⊎◌, inl, inr, ℕ, zero, suc, ◌+◌, ◌*◌, ◌^◌, ◌<◌, ◌≤◌, max, Bool, true, false, cond, List, [], ◌∷◌, ◌++◌, length, take, drop, get_or, ℤ, pos, negsuc, neg_ℤ, ◌+ℤ◌, ◌-ℤ◌, ◌*ℤ◌, ◌≤ℤ◌, ◌<ℤ◌, nat_abs, refl, sym, ap, ap₂, ◌∙◌, subst, arith, ⊎_elim, add-one, drop-cons, mul-le-mul_left}
+use Rattle.std.proofs.Common.{◌≡◌, ◌≢◌, ◌⊎◌, inl, inr, ℕ, zero, suc, ◌+◌, ◌*◌, ◌^◌, ◌<◌, ◌≤◌, max, List, [], ◌∷◌, length, take, drop, get_or, ℤ, pos, negsuc, neg_ℤ, ◌+ℤ◌, ◌*ℤ◌, ◌≤ℤ◌, ◌<ℤ◌, nat_abs, refl, sym, ap, ap₂, ◌∙◌, subst, arith, ⊎_elim, add-one, drop-cons, mul-le-mul_left}
 use Rattle.std.specs.Prelude.{Option, Some, None, All, IsSome, unwrap_or, int_lt}
 use Rattle.std.specs.List.{insert, sum_by}
 use Rattle.std.specs.List.Sorted.{IsStrictlyIncreasing}
-use Rattle.std.proofs.lemmas.Bool.{cond_both, cases_lt}
+use Rattle.std.proofs.lemmas.Bool.{cond_both}
 use Rattle.std.proofs.lemmas.List.Elements.{All-append, All-cons, All-take, All-drop, All-weaker}
 use Rattle.exact_math.specs.Ring.{integers}
-use Rattle.exact_math.specs.IntegerRing.{linear, mul_comm, mul_neg, neg_mul, mul_zero, zero_mul}
-use Rattle.exact_math.specs.IntegerOrder.{mul_nonneg, mul_le, square_nonneg, le_or_lt}
-use Rattle.exact_vectors.specs.Vectors.{dot, add, scale, negate}
+use Rattle.exact_math.specs.IntegerRing.{linear, mul_neg, neg_mul, zero_mul}
+use Rattle.exact_math.specs.IntegerOrder.{le_or_lt}
+use Rattle.exact_vectors.specs.Vectors.{add, scale, negate}
 use Rattle.whole_rows.specs.declared.bounds.Bounds.{Bounds}
 use Rattle.whole_rows.specs.declared.ends.End.TheVariants.{Least}
 use Rattle.whole_rows.specs.WholeRows.{WholeRows, reach, span}
@@ -18,14 +18,14 @@ use Rattle.farkas_rows.specs.declared.path.Slice.{Slice}
 use Rattle.farkas_rows.specs.Inequalities.{Inequality, at_most, at_least, unit, inequality_at}
 use Rattle.farkas_rows.specs.Refutes.{nothing, inequality_weight}
 use Rattle.plain_slices.specs.declared.node.Source.{Source}
-use Rattle.plain_slices.specs.Nodes.{narrowed_at, source_at, IsTight, IsNarrowed, IsOpenBox}
-use Rattle.plain_slices.specs.Items.{numbers_of, left_of, limit_of, weight_of, less, IsPutIn, bound_item, named_by, IsGathered, IsApartFrom, IsBalanced}
+use Rattle.plain_slices.specs.Nodes.{narrowed_at, source_at, IsNarrowed}
+use Rattle.plain_slices.specs.Items.{numbers_of, left_of, limit_of, weight_of, less, IsPutIn, bound_item, named_by, IsApartFrom, IsBalanced}
 use Rattle.plain_slices.proofs.ItemLaws.{left_of-insert, limit_of-insert, weight_of-insert, less-more, less-skip, scale-negate, sizes_of_unit, sizes_of_negated}
 use Rattle.plain_slices.proofs.UnitLaws.{unit-same, unit-other, negate-at}
 
 -- ---- what is put in
 
-All-insert : {X : Type 0} (P : X → Type 0) (xs : List X) (i : ℕ) (x : X) → P x → All P xs → All P (insert xs i x)
+pub All-insert : {X : Type 0} (P : X → Type 0) (xs : List X) (i : ℕ) (x : X) → P x → All P xs → All P (insert xs i x)
 All-insert P xs i x here all = All-append P (take i xs) (x ∷ drop i xs) (All-take P i xs all) (All-cons P x (drop i xs) here (All-drop P i xs all))
 
 -- what an item is for a column with this factor: it takes the factor away, at the end of the bounds at which the product is least
@@ -96,24 +96,25 @@ balance-item rows path bounds form column old current new inequality item dense 
     let in_bounds : column < length bounds = omega (arith, dense) in
     let place = put.0 in
     let c = get_or form column (pos 0) in
-    let there : IsSome (inequality_at rows path None item.index) = subst IsSome (sym names) refl in
-    (record {
-      gathered = record {
-        rising = rising;
-        there = subst (All (λ (item : Use). IsSome (inequality_at rows path None item.index))) (sym put.2) (All-insert (λ (item : Use). IsSome (inequality_at rows path None item.index)) current place item there balanced.gathered.there);
-        in_range = subst (All (λ (item : Use). (pos 1 ≤ℤ item.times) × (item.times ≤ℤ pos (2 ^ 126)))) (sym put.2) (All-insert (λ (item : Use). (pos 1 ≤ℤ item.times) × (item.times ≤ℤ pos (2 ^ 126))) current place item (takes.once.0, omega (linear, takes.once.1)) balanced.gathered.in_range);
-      };
-      left = ap (left_of named n) put.2 ∙ left_of-insert named n current place item ∙ ap (λ (i : Inequality). add integers (scale integers item.times i.factors) (left_of named n current)) is ∙ ap₂ {A = List ℤ} {B = List ℤ} {C = List ℤ} (add integers) takes.form balanced.left ∙ less-more n column (left_of named n old) form (neg_ℤ c) l_wide wide h refl ∙ ap (λ (k : ℕ). less k (left_of named n old) form) (sym (add-one column));
-      limit =
-        let more = ap (limit_of named) put.2 ∙ limit_of-insert named current place item ∙ ap (λ (i : Inequality). item.times *ℤ i.limit +ℤ limit_of named current) is in
-        omega (linear, more, takes.limit, balanced.limit, sum-drop form bounds column in_form in_bounds);
-      weight =
-        let more = ap (weight_of named) put.2 ∙ weight_of-insert named current place item ∙ ap (λ (i : Inequality). item.times *ℤ pos (inequality_weight i) +ℤ weight_of named current) is in
-        omega (linear, more, takes.weight, balanced.weight, span-drop form bounds column in_form in_bounds);
-    },
-    subst (IsApartFrom named (column + 1) form) (sym put.2) (All-insert (λ (item : Use). (k : ℕ) → column + 1 ≤ k → pos 0 ≤ℤ (get_or (named item.index).factors k (pos 0) *ℤ get_or form k (pos 0))) current place item
-      (λ k le. let zero_here : get_or (named item.index).factors k (pos 0) ≡ pos 0 = ap (λ (i : Inequality). get_or i.factors k (pos 0)) is ∙ takes.others k (omega arith) in omega (linear, ap (λ (t : ℤ). t *ℤ get_or form k (pos 0)) zero_here, zero_mul (get_or form k (pos 0))))
-      (All-weaker (λ (item : Use). (k : ℕ) → column ≤ k → pos 0 ≤ℤ (get_or (named item.index).factors k (pos 0) *ℤ get_or form k (pos 0))) (λ (item : Use). (k : ℕ) → column + 1 ≤ k → pos 0 ≤ℤ (get_or (named item.index).factors k (pos 0) *ℤ get_or form k (pos 0))) (λ x apart k le. apart k (omega arith)) current apart)))
+    let there : IsSome (inequality_at rows path None item.index) = subst IsSome (sym names) refl in (
+      record {
+        gathered = record {
+          rising = rising;
+          there = subst (All (λ (item : Use). IsSome (inequality_at rows path None item.index))) (sym put.2) (All-insert (λ (item : Use). IsSome (inequality_at rows path None item.index)) current place item there balanced.gathered.there);
+          in_range = subst (All (λ (item : Use). (pos 1 ≤ℤ item.times) × (item.times ≤ℤ pos (2 ^ 126)))) (sym put.2) (All-insert (λ (item : Use). (pos 1 ≤ℤ item.times) × (item.times ≤ℤ pos (2 ^ 126))) current place item (takes.once.0, omega (linear, takes.once.1)) balanced.gathered.in_range);
+        };
+        left = ap (left_of named n) put.2 ∙ left_of-insert named n current place item ∙ ap (λ (i : Inequality). add integers (scale integers item.times i.factors) (left_of named n current)) is ∙ ap₂ {A = List ℤ} {B = List ℤ} {C = List ℤ} (add integers) takes.form balanced.left ∙ less-more n column (left_of named n old) form (neg_ℤ c) l_wide wide h refl ∙ ap (λ (k : ℕ). less k (left_of named n old) form) (sym (add-one column));
+        limit =
+            let more = ap (limit_of named) put.2 ∙ limit_of-insert named current place item ∙ ap (λ (i : Inequality). item.times *ℤ i.limit +ℤ limit_of named current) is in
+            omega (linear, more, takes.limit, balanced.limit, sum-drop form bounds column in_form in_bounds);
+        weight =
+            let more = ap (weight_of named) put.2 ∙ weight_of-insert named current place item ∙ ap (λ (i : Inequality). item.times *ℤ pos (inequality_weight i) +ℤ weight_of named current) is in
+            omega (linear, more, takes.weight, balanced.weight, span-drop form bounds column in_form in_bounds);
+      },
+      subst (IsApartFrom named (column + 1) form) (sym put.2) (All-insert (λ (item : Use). (k : ℕ) → column + 1 ≤ k → pos 0 ≤ℤ (get_or (named item.index).factors k (pos 0) *ℤ get_or form k (pos 0))) current place item
+          (λ k le. let zero_here : get_or (named item.index).factors k (pos 0) ≡ pos 0 = ap (λ (i : Inequality). get_or i.factors k (pos 0)) is ∙ takes.others k (omega arith) in omega (linear, ap (λ (t : ℤ). t *ℤ get_or form k (pos 0)) zero_here, zero_mul (get_or form k (pos 0))))
+          (All-weaker (λ (item : Use). (k : ℕ) → column ≤ k → pos 0 ≤ℤ (get_or (named item.index).factors k (pos 0) *ℤ get_or form k (pos 0))) (λ (item : Use). (k : ℕ) → column + 1 ≤ k → pos 0 ≤ℤ (get_or (named item.index).factors k (pos 0) *ℤ get_or form k (pos 0))) (λ x apart k le. apart k (omega arith)) current apart)),
+    )
 
 -- a column without a factor
 balance-zero : (rows : WholeRows) (path : List Slice) (bounds : List Bounds) (form : List ℤ) (column : ℕ) (old current new : List Use) → length bounds ≡ length rows.box → length form ≡ length rows.box → column < length rows.box → length (left_of (named_by rows path None) (length rows.box) old) ≡ length rows.box → get_or form column (pos 0) ≡ pos 0 → IsBalanced rows path bounds form column old current → IsApartFrom (named_by rows path None) column form current → new ≡ current → IsBalanced rows path bounds form (column + 1) old new × IsApartFrom (named_by rows path None) (column + 1) form new
@@ -123,13 +124,15 @@ balance-zero rows path bounds form column old current new dense wide h l_wide no
     let in_form : column < length form = omega (arith, wide) in
     let in_bounds : column < length bounds = omega (arith, dense) in
     let product : get_or form column (pos 0) *ℤ value_at Least (get_or form column (pos 0)) (narrowed_at bounds column) ≡ pos 0 = ap (λ (t : ℤ). t *ℤ value_at Least (get_or form column (pos 0)) (narrowed_at bounds column)) none ∙ zero_mul (value_at Least (get_or form column (pos 0)) (narrowed_at bounds column)) in
-    rw kept (record {
-      gathered = balanced.gathered;
-      left = balanced.left ∙ sym (less-skip n column (left_of named n old) form l_wide wide h none) ∙ ap (λ (k : ℕ). less k (left_of named n old) form) (sym (add-one column));
-      limit = omega (linear, product, balanced.limit, sum-drop form bounds column in_form in_bounds);
-      weight = omega (linear, balanced.weight, span-drop form bounds column in_form in_bounds);
-    },
-    All-weaker (λ (item : Use). (k : ℕ) → column ≤ k → pos 0 ≤ℤ (get_or (named item.index).factors k (pos 0) *ℤ get_or form k (pos 0))) (λ (item : Use). (k : ℕ) → column + 1 ≤ k → pos 0 ≤ℤ (get_or (named item.index).factors k (pos 0) *ℤ get_or form k (pos 0))) (λ x apart k le. apart k (omega arith)) current apart)
+    rw kept (
+      record {
+        gathered = balanced.gathered;
+        left = balanced.left ∙ sym (less-skip n column (left_of named n old) form l_wide wide h none) ∙ ap (λ (k : ℕ). less k (left_of named n old) form) (sym (add-one column));
+        limit = omega (linear, product, balanced.limit, sum-drop form bounds column in_form in_bounds);
+        weight = omega (linear, balanced.weight, span-drop form bounds column in_form in_bounds);
+      },
+      All-weaker (λ (item : Use). (k : ℕ) → column ≤ k → pos 0 ≤ℤ (get_or (named item.index).factors k (pos 0) *ℤ get_or form k (pos 0))) (λ (item : Use). (k : ℕ) → column + 1 ≤ k → pos 0 ≤ℤ (get_or (named item.index).factors k (pos 0) *ℤ get_or form k (pos 0))) (λ x apart k le. apart k (omega arith)) current apart,
+    )
 
 -- an item of the opposite sign has a number of its own
 new_number : (named : ℕ → Inequality) (n column : ℕ) (form : List ℤ) (bounds : Bounds) (current : List Use) (inequality : Inequality) (item : Use) → named item.index ≡ inequality → Takes n column (get_or form column (pos 0)) bounds inequality item → IsApartFrom named column form current → All (λ (other : Use). other.index ≢ item.index) current
@@ -148,8 +151,8 @@ bound-takes rows path bounds sources column factor narrowed h other =
     let above : Use = record { index = s.above; times = neg_ℤ factor } in
     let below : Use = record { index = s.below; times = factor } in
     cond_both (int_lt factor (pos 0)) above below (λ (item : Use). (inequality : Inequality) × (inequality_at rows path None item.index ≡ Some inequality) × Takes n column factor b inequality item)
-      (λ e. (at_most (unit n column) b.high, t.above, takes_above n column factor b above h (omega linear) refl))
-      (λ e. (at_least (unit n column) b.low, t.below, takes_below n column factor b below h (positive factor other (omega linear)) refl))
+    (λ e. (at_most (unit n column) b.high, t.above, takes_above n column factor b above h (omega linear) refl))
+    (λ e. (at_least (unit n column) b.low, t.below, takes_below n column factor b below h (positive factor other (omega linear)) refl))
   where
     positive : (factor : ℤ) → factor ≢ pos 0 → pos 0 ≤ℤ factor → pos 0 <ℤ factor
     positive factor other h = ⊎_elim (λ (s : factor ≤ℤ pos 0). absurd (other (omega linear))) (λ (s : pos 0 <ℤ factor). s) (le_or_lt factor (pos 0))
@@ -170,6 +173,6 @@ pub balance-more : (rows : WholeRows) (path : List Slice) (bounds : List Bounds)
 balance-more rows path bounds sources form column old current new narrowed wide h small l_wide balanced apart kept put rising = ⊎_elim
     (λ (none : get_or form column (pos 0) ≡ pos 0). balance-zero rows path bounds form column old current new narrowed.dense wide h l_wide none balanced apart (kept none))
     (λ (other : get_or form column (pos 0) ≢ pos 0).
-      let takes = bound-takes rows path bounds sources column (get_or form column (pos 0)) narrowed h other in
-      balance-item rows path bounds form column old current new takes.0 (bound_item (source_at sources column) (get_or form column (pos 0))) narrowed.dense wide h small l_wide takes.1 takes.2 balanced apart (put other) rising)
+    let takes = bound-takes rows path bounds sources column (get_or form column (pos 0)) narrowed h other in
+    balance-item rows path bounds form column old current new takes.0 (bound_item (source_at sources column) (get_or form column (pos 0))) narrowed.dense wide h small l_wide takes.1 takes.2 balanced apart (put other) rising)
     (zero_or_not (get_or form column (pos 0)))

@@ -1,13 +1,12 @@
 -- The sides of rows and slices are inequalities of the node.
-use Rattle.std.proofs.Common.{◌≡◌, ℕ, ◌+◌, ◌*◌, ◌^◌, ◌<◌, ◌≤◌, List, length, get_or, ℤ, neg_ℤ, nat_abs, refl, sym, ap, ap₂, ◌∙◌, subst, arith}
-use Rattle.std.specs.Prelude.{Option, Some, None, All, option_map}
+use Rattle.std.proofs.Common.{◌≡◌, ℕ, ◌+◌, ◌*◌, ◌^◌, ◌<◌, ◌≤◌, List, length, get_or, ℤ, nat_abs, sym, ap, ◌∙◌, subst, arith}
+use Rattle.std.specs.Prelude.{Option, Some, None, option_map}
 use Rattle.exact_math.specs.IntegerRing.{linear}
 use Rattle.whole_rows.specs.declared.bounds.Bounds.{Bounds}
 use Rattle.whole_rows.specs.WholeRows.{WholeRow, WholeRows, row_at, span, size_of_side, weight, IsWithinLimits}
 use Rattle.farkas_rows.specs.declared.path.Slice.{Slice}
-use Rattle.farkas_rows.specs.Inequalities.{Inequality, at_most, at_least, inequality_at}
+use Rattle.farkas_rows.specs.Inequalities.{at_most, at_least, inequality_at}
 use Rattle.farkas_rows.specs.Refutes.{inequality_weight}
-use Rattle.farkas_rows.specs.NodeLaws.{length-negate}
 use Rattle.proof_tree.specs.Trees.{IsOfSize}
 use Rattle.plain_slices.specs.declared.side.Side.{Side}
 use Rattle.plain_slices.specs.declared.side.Side.TheVariants.{Upper, Lower}
@@ -30,13 +29,17 @@ row-sides rows path i limits h = record { names = names; light = light }
   where
     row : WholeRow
     row = row_at rows i
+
     names : (side : Side) (value : ℤ) → side_value side (row_at rows i).low (row_at rows i).high ≡ Some value → inequality_at rows path None (side_number side (2 * i)) ≡ Some (side_inequality side (row_at rows i).factors value)
     names Upper value e = number-row_upper rows path None i h ∙ ap (option_map (at_most (row_at rows i).factors)) e
     names Lower value e = number-row_lower rows path None i h ∙ ap (option_map (at_least (row_at rows i).factors)) e
+
     heavy : weight rows.box (row_at rows i) ≤ 2 ^ 96
     heavy = limits.light.weights i _ h
+
     dense : length (row_at rows i).factors ≡ length rows.box
     dense = limits.dense i _ h
+
     light : (side : Side) (value : ℤ) → side_value side (row_at rows i).low (row_at rows i).high ≡ Some value → inequality_weight (side_inequality side (row_at rows i).factors value) ≤ 2 ^ 100
     light Upper value e = side_weight Upper (row_at rows i).factors rows.box value dense (omega (arith, heavy)) (omega (arith, heavy, side_size (row_at rows i).high value e))
     light Lower value e = side_weight Lower (row_at rows i).factors rows.box value dense (omega (arith, heavy)) (omega (arith, heavy, side_size (row_at rows i).low value e))
@@ -53,17 +56,23 @@ slice-sides rows path e number slice within h is n = record { names = names; lig
   where
     upper : number ≡ 2 * length rows.rows + 2 * length rows.box + 2 * e
     upper = omega arith
+
     lower : number + 1 ≡ 2 * length rows.rows + 2 * length rows.box + 2 * e + 1
     lower = omega arith
+
     names : (side : Side) (value : ℤ) → side_value side (Some slice.beta) (Some slice.beta) ≡ Some value → inequality_at rows path None (side_number side number) ≡ Some (side_inequality side slice.form value)
     names Upper value v = ap (inequality_at rows path None) upper ∙ number-slice_upper rows path None e slice h ∙ ap (λ (s : Slice). Some (at_most s.form s.beta)) (sym is) ∙ ap (λ (b : ℤ). Some (at_most slice.form b)) (some_same slice.beta value v)
     names Lower value v = ap (inequality_at rows path None) lower ∙ number-slice_lower rows path None e slice h ∙ ap (λ (s : Slice). Some (at_least s.form s.beta)) (sym is) ∙ ap (λ (b : ℤ). Some (at_least slice.form b)) (some_same slice.beta value v)
+
     dense : length slice.form ≡ length rows.box
     dense = ap (λ (s : Slice). length s.form) is ∙ within.forms e slice h
+
     spans : span slice.form rows.box ≤ 2 ^ 96
     spans = subst (λ (s : Slice). span s.form rows.box ≤ 2 ^ 96) (sym is) (within.light e slice h)
+
     small : IsOfSize (2 ^ 98) slice.beta
     small = subst (λ (s : Slice). IsOfSize (2 ^ 98) s.beta) (sym is) (within.values e slice h)
+
     light : (side : Side) (value : ℤ) → side_value side (Some slice.beta) (Some slice.beta) ≡ Some value → inequality_weight (side_inequality side slice.form value) ≤ 2 ^ 100
     light Upper value v = side_weight Upper slice.form rows.box value dense spans (subst (λ (b : ℤ). nat_abs b ≤ 2 ^ 99) (some_same slice.beta value v) (sized slice.beta small))
     light Lower value v = side_weight Lower slice.form rows.box value dense spans (subst (λ (b : ℤ). nat_abs b ≤ 2 ^ 99) (some_same slice.beta value v) (sized slice.beta small))

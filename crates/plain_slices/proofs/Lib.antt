@@ -10,3 +10,4 @@ pub mod SideLaws
 pub mod RefuteLaws
 pub mod ShutLaws
 pub mod HasSideLaws
+pub mod SplitLaws

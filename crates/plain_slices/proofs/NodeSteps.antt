@@ -1,6 +1,6 @@
 -- How a slice narrows the box of a node.
-use Rattle.std.proofs.Common.{◌≡◌, ◌≢◌, ◌⊎◌, ◌↔◌, inl, inr, ℕ, zero, suc, ◌+◌, ◌*◌, ◌^◌, ◌<◌, ◌≤◌, Bool, true, false, cond, List, [], ◌∷◌, ◌++◌, length, get_or, set, take, map, ℤ, nat_abs, pos, neg_ℤ, ◌≤ℤ◌, ◌<ℤ◌, refl, sym, ap, ap₂, ◌∙◌, subst, zero-add, arith, ⊎_elim, rules}
-use Rattle.std.specs.Prelude.{Option, Some, None, All, Any, IsTrue, int_lt}
+use Rattle.std.proofs.Common.{◌≡◌, ◌≢◌, ◌⊎◌, ◌↔◌, inl, inr, ℕ, zero, suc, ◌+◌, ◌*◌, ◌^◌, ◌<◌, ◌≤◌, Bool, true, false, cond, List, [], ◌∷◌, ◌++◌, length, get_or, set, take, map, ℤ, nat_abs, pos, neg_ℤ, ◌≤ℤ◌, refl, sym, ap, ap₂, ◌∙◌, subst, zero-add, arith, ⊎_elim, rules}
+use Rattle.std.specs.Prelude.{Option, Some, None, All, int_lt}
 use Rattle.std.specs.List.{range_with_len}
 use Rattle.std.proofs.lemmas.List.FromFn.{length-map-range_with_len, get_or-map-range_with_len}
 use Rattle.std.proofs.lemmas.List.{get_or-set_same, get_or-set_other, get_or_append_left, get_or_push, length_push, length-set, take_more}
@@ -31,11 +31,11 @@ use Rattle.plain_slices.proofs.UnitLaws.{column-signed, column-unique}
 between_fixed : (b : Bounds) (value y : ℤ) → (((bounds_fixed b value).low ≤ℤ y) × (y ≤ℤ (bounds_fixed b value).high)) ↔ (((b.low ≤ℤ y) × (y ≤ℤ b.high)) × (y ≡ value))
 between_fixed b value y = cond_both (int_lt b.low value) value b.low (λ low. ((low ≤ℤ y) × (y ≤ℤ (bounds_fixed b value).high)) ↔ (((b.low ≤ℤ y) × (y ≤ℤ b.high)) × (y ≡ value)))
     (λ e. cond_both (int_lt value b.high) value b.high (λ high. ((value ≤ℤ y) × (y ≤ℤ high)) ↔ (((b.low ≤ℤ y) × (y ≤ℤ b.high)) × (y ≡ value)))
-      (λ f. ((λ h. ((omega (linear, h.0), omega (linear, h.1)), omega (linear, h.0, h.1))), (λ h. (omega (linear, h.1), omega (linear, h.1)))))
-      (λ f. ((λ h. ((omega (linear, h.0), omega (linear, h.1)), omega (linear, h.0, h.1))), (λ h. (omega (linear, h.1), omega (linear, h.0.1, h.1))))))
+    (λ f. ((λ h. ((omega (linear, h.0), omega (linear, h.1)), omega (linear, h.0, h.1))), (λ h. (omega (linear, h.1), omega (linear, h.1)))))
+    (λ f. ((λ h. ((omega (linear, h.0), omega (linear, h.1)), omega (linear, h.0, h.1))), (λ h. (omega (linear, h.1), omega (linear, h.0.1, h.1))))))
     (λ e. cond_both (int_lt value b.high) value b.high (λ high. ((b.low ≤ℤ y) × (y ≤ℤ high)) ↔ (((b.low ≤ℤ y) × (y ≤ℤ b.high)) × (y ≡ value)))
-      (λ f. ((λ h. ((omega (linear, h.0), omega (linear, h.1)), omega (linear, h.0, h.1))), (λ h. (omega (linear, h.0.0), omega (linear, h.1)))))
-      (λ f. ((λ h. ((omega (linear, h.0), omega (linear, h.1)), omega (linear, h.0, h.1))), (λ h. (omega (linear, h.0.0), omega (linear, h.0.1))))))
+    (λ f. ((λ h. ((omega (linear, h.0), omega (linear, h.1)), omega (linear, h.0, h.1))), (λ h. (omega (linear, h.0.0), omega (linear, h.1)))))
+    (λ f. ((λ h. ((omega (linear, h.0), omega (linear, h.1)), omega (linear, h.0, h.1))), (λ h. (omega (linear, h.0.0), omega (linear, h.0.1))))))
 
 -- the column of the value is fixed in a box that is left
 LiesIn-fixed : (bounds : List Bounds) (x : List ℤ) (column : ℕ) (value : ℤ) → column < length bounds → LiesIn (set bounds column (bounds_fixed (narrowed_at bounds column) value)) x ↔ (LiesIn bounds x × (get_or x column (pos 0) ≡ value))
@@ -58,7 +58,6 @@ dot-signed : (negative : Bool) (n column : ℕ) (x : List ℤ) → length x ≡ 
 dot-signed true n column x e h = dot-negate_left integers (unit n column) x ∙ ap neg_ℤ (dot-unit n column x e h)
 dot-signed false n column x e h = dot-unit n column x e h
 
-
 -- the values that are left with a slice more
 narrowed-push : (rows : WholeRows) (done : List Slice) (slice : Slice) (x : List ℤ) → LiesInNarrowed rows (done ++ slice ∷ []) x ↔ (LiesInNarrowed rows done x × on rows x slice)
 narrowed-push rows done slice x = (
@@ -73,9 +72,9 @@ fixed-push n done slice column fixed =
     let found = fixed.1 in
     let within : k < length done + 1 = rw (← length_push done slice) fixed.2 in
     ⊎_elim
-      (λ (before : k < length done). inl (k, found, before, sym (get_or_append_left done (slice ∷ []) found k before) ∙ fixed.3, fixed.4))
-      (λ (last : length done ≤ k). let is : slice ≡ found = sym (get_or_push done slice found k (omega arith)) ∙ fixed.3 in inr (subst (λ (slice : Slice). IsColumn n column slice.form) (sym is) fixed.4))
-      (cases_lt k (length done))
+    (λ (before : k < length done). inl (k, found, before, sym (get_or_append_left done (slice ∷ []) found k before) ∙ fixed.3, fixed.4))
+    (λ (last : length done ≤ k). let is : slice ≡ found = sym (get_or_push done slice found k (omega arith)) ∙ fixed.3 in inr (subst (λ (slice : Slice). IsColumn n column slice.form) (sym is) fixed.4))
+    (cases_lt k (length done))
 
 fixed-more : (n : ℕ) (done : List Slice) (slice : Slice) (column : ℕ) → IsFixedBy n done column → IsFixedBy n (done ++ slice ∷ []) column
 fixed-more n done slice column fixed = (fixed.0, fixed.1, omega (arith, length_push done slice, fixed.2), get_or_append_left done (slice ∷ []) fixed.1 fixed.0 fixed.2 ∙ fixed.3, fixed.4)
@@ -113,8 +112,8 @@ tight-fixed rows path done slice column b s value above below t is small names_a
   small_high = cond_both (int_lt value b.high) value b.high (IsOfSize (2 ^ 98)) (λ e. small) (λ e. t.small_high);
   fixed = ((λ _. Any-push (λ (slice : Slice). IsColumn (length rows.box) column slice.form) done slice is), (λ _. search rules));
   one_value = λ _. cond_both (int_lt b.low value) value b.low (λ low. (bounds_fixed b value).high ≤ℤ low)
-    (λ e. cond_both (int_lt value b.high) value b.high (λ high. high ≤ℤ value) (λ f. omega linear) (λ f. omega linear))
-    (λ e. cond_both (int_lt value b.high) value b.high (λ high. high ≤ℤ b.low) (λ f. omega linear) (λ f. omega linear));
+      (λ e. cond_both (int_lt value b.high) value b.high (λ high. high ≤ℤ value) (λ f. omega linear) (λ f. omega linear))
+      (λ e. cond_both (int_lt value b.high) value b.high (λ high. high ≤ℤ b.low) (λ f. omega linear) (λ f. omega linear));
   as_box = λ e. absurd (false≢true (sym e));
 }
 
@@ -153,19 +152,19 @@ IsNarrowed-fixed rows path done slice negative column bounds sources value above
       sourced = length-set sources column _ ∙ narrowed.sourced;
       points = λ x. (
         (λ lies.
-          let both = (LiesIn-fixed bounds x column value here).0 lies in
-          let before = (narrowed.points x).0 both.0 in
-          let wide : length x ≡ n = AllZip-long _ _ _ before.in_box in
-          (narrowed-push rows done slice x).1 (before, (λ _ _ _. ap (λ f. dot integers f x) form ∙ dot-signed negative n column x wide h ∙ form_from negative (get_or x column (pos 0)) slice.beta value is_value both.1))),
+            let both = (LiesIn-fixed bounds x column value here).0 lies in
+            let before = (narrowed.points x).0 both.0 in
+            let wide : length x ≡ n = AllZip-long _ _ _ before.in_box in
+            (narrowed-push rows done slice x).1 (before, (λ _ _ _. ap (λ f. dot integers f x) form ∙ dot-signed negative n column x wide h ∙ form_from negative (get_or x column (pos 0)) slice.beta value is_value both.1))),
         (λ lies.
-          let both = (narrowed-push rows done slice x).0 lies in
-          let wide : length x ≡ n = AllZip-long _ _ _ both.0.in_box in
-          (LiesIn-fixed bounds x column value here).1 ((narrowed.points x).1 both.0, value_from negative (get_or x column (pos 0)) slice.beta value is_value (sym (dot-signed negative n column x wide h) ∙ ap (λ f. dot integers f x) (sym form) ∙ both.1 column h is))),
+            let both = (narrowed-push rows done slice x).0 lies in
+            let wide : length x ≡ n = AllZip-long _ _ _ both.0.in_box in
+            (LiesIn-fixed bounds x column value here).1 ((narrowed.points x).1 both.0, value_from negative (get_or x column (pos 0)) slice.beta value is_value (sym (dot-signed negative n column x wide h) ∙ ap (λ f. dot integers f x) (sym form) ∙ both.1 column h is))),
       );
       tight = λ other lt. ⊎_elim
-        (λ (same : other ≡ column). rw (same, get_or-set_same, get_or-set_same) (tight-fixed rows path done slice column (narrowed_at bounds column) (source_at sources column) value above below (narrowed.tight column h) is small names_above names_below))
-        (λ (differ : other ≢ column). rw (get_or-set_other, get_or-set_other) (tight-kept rows path done slice column other (narrowed_at bounds other) (source_at sources other) (narrowed.tight other lt) h is differ))
-        (same_or_not other column);
+          (λ (same : other ≡ column). rw (same, get_or-set_same, get_or-set_same) (tight-fixed rows path done slice column (narrowed_at bounds column) (source_at sources column) value above below (narrowed.tight column h) is small names_above names_below))
+          (λ (differ : other ≢ column). rw (get_or-set_other, get_or-set_other) (tight-kept rows path done slice column other (narrowed_at bounds other) (source_at sources other) (narrowed.tight other lt) h is differ))
+          (same_or_not other column);
     }
 
 -- ---- the slices in order
@@ -213,8 +212,8 @@ narrow-fix rows path e slice column bounds new_bounds sources new_sources value 
     let form : slice.form ≡ unit n column = some.1 ∙ ap (λ (k : ℕ). unit k column) wide in
     let small : IsOfSize (2 ^ 98) slice.beta = subst (λ (s : Slice). IsOfSize (2 ^ 98) s.beta) (sym is) (values e slice h) in
     rw (take-slice path e slice h is, is_bounds, is_sources) (IsNarrowed-fixed rows path (take e path) slice false column bounds sources value above below narrowed (omega arith) form is_value (subst (IsOfSize (2 ^ 98)) (sym is_value) small)
-      (numbers_upper rows path e above slice h is is_above ∙ ap₂ {A = List ℤ} {B = ℤ} {C = Option Inequality} (λ f v. Some (at_most f v)) form (sym is_value))
-      (numbers_lower rows path e below slice h is is_below ∙ ap₂ {A = List ℤ} {B = ℤ} {C = Option Inequality} (λ f v. Some (at_least f v)) form (sym is_value)))
+    (numbers_upper rows path e above slice h is is_above ∙ ap₂ {A = List ℤ} {B = ℤ} {C = Option Inequality} (λ f v. Some (at_most f v)) form (sym is_value))
+    (numbers_lower rows path e below slice h is is_below ∙ ap₂ {A = List ℤ} {B = ℤ} {C = Option Inequality} (λ f v. Some (at_least f v)) form (sym is_value)))
 
 -- the next slice's form is minus a column's value
 pub narrow-fix_negative : (rows : WholeRows) (path : List Slice) (e : ℕ) (slice : Slice) (column : ℕ) (bounds new_bounds : List Bounds) (sources new_sources : List Source) (value : ℤ) (above below : ℕ) → e < length path → slice ≡ get_or path e slice → HasForms (length rows.box) path → All (λ (slice : Slice). IsOfSize (2 ^ 98) slice.beta) path → IsNarrowed rows path (take e path) bounds sources → (column < length slice.form) × (slice.form ≡ signed_unit true (length slice.form) column) → value ≡ neg_ℤ slice.beta → above ≡ 2 * (length rows.rows + length rows.box + e) + 1 → below ≡ 2 * (length rows.rows + length rows.box + e) → new_bounds ≡ set bounds column (bounds_fixed (narrowed_at bounds column) value) → new_sources ≡ set sources column (source_fixed (narrowed_at bounds column) (source_at sources column) value above below) → IsNarrowed rows path (take (e + 1) path) new_bounds new_sources
@@ -224,8 +223,8 @@ narrow-fix_negative rows path e slice column bounds new_bounds sources new_sourc
     let form : slice.form ≡ negate integers (unit n column) = some.1 ∙ ap (λ (k : ℕ). negate integers (unit k column)) wide in
     let small : IsOfSize (2 ^ 98) slice.beta = subst (λ (s : Slice). IsOfSize (2 ^ 98) s.beta) (sym is) (values e slice h) in
     rw (take-slice path e slice h is, is_bounds, is_sources) (IsNarrowed-fixed rows path (take e path) slice true column bounds sources value above below narrowed (omega arith) form is_value (small_negated slice.beta value is_value small)
-      (numbers_lower rows path e above slice h is is_above ∙ ap (λ (f : List ℤ). Some (at_least f slice.beta)) form ∙ ap Some (turned_lower (unit n column) slice.beta value is_value))
-      (numbers_upper rows path e below slice h is is_below ∙ ap (λ (f : List ℤ). Some (at_most f slice.beta)) form ∙ ap Some (turned_upper (unit n column) slice.beta value is_value)))
+    (numbers_lower rows path e above slice h is is_above ∙ ap (λ (f : List ℤ). Some (at_least f slice.beta)) form ∙ ap Some (turned_lower (unit n column) slice.beta value is_value))
+    (numbers_upper rows path e below slice h is is_below ∙ ap (λ (f : List ℤ). Some (at_most f slice.beta)) form ∙ ap Some (turned_upper (unit n column) slice.beta value is_value)))
 
 -- ---- the box of the root
 
@@ -242,17 +241,17 @@ IsNarrowed-box rows path bounds sources limits is_bounds is_sources = rw (is_bou
   sourced = length-map-range_with_len (box_source (length rows.rows)) 0 (length rows.box);
   points = λ x. ((λ lies. record { in_box = lies; on_slices = All-nil (on rows x) }), (λ lies. lies.in_box));
   tight = λ column h.
-    let here : source_at (map (box_source (length rows.rows)) (range_with_len 0 (length rows.box))) column ≡ box_source (length rows.rows) column = get_or-map-range_with_len (box_source (length rows.rows)) 0 (length rows.box) column column (record { above = 0; below = 0; is_fixed = false }) h (zero-add column) in
-    let small = reach-bounds (bounds_at rows column) (limits.light.reaches column (record { low = pos 0; high = pos 0 }) h) in
-    rw here (record {
-      above = number-bound_upper rows path None column h;
-      below = number-bound_lower rows path None column h;
-      within_low = omega linear;
-      within_high = omega linear;
-      small_low = small.0;
-      small_high = small.1;
-      fixed = ((λ is. search rules), (λ (fixed : IsFixedBy (length rows.box) [] column). absurd (omega (arith, fixed.2))));
-      one_value = λ is. search rules;
-      as_box = λ e. refl;
-    });
+      let here : source_at (map (box_source (length rows.rows)) (range_with_len 0 (length rows.box))) column ≡ box_source (length rows.rows) column = get_or-map-range_with_len (box_source (length rows.rows)) 0 (length rows.box) column column (record { above = 0; below = 0; is_fixed = false }) h (zero-add column) in
+      let small = reach-bounds (bounds_at rows column) (limits.light.reaches column (record { low = pos 0; high = pos 0 }) h) in
+      rw here (record {
+        above = number-bound_upper rows path None column h;
+        below = number-bound_lower rows path None column h;
+        within_low = omega linear;
+        within_high = omega linear;
+        small_low = small.0;
+        small_high = small.1;
+        fixed = ((λ is. search rules), (λ (fixed : IsFixedBy (length rows.box) [] column). absurd (omega (arith, fixed.2))));
+        one_value = λ is. search rules;
+        as_box = λ e. refl;
+      });
 })

@@ -1,6 +1,6 @@
 -- A node is shut exactly where an inequality is out of reach within its narrowed box.
-use Rattle.std.proofs.Common.{◌≡◌, ◌≢◌, ◌⊎◌, inl, inr, ℕ, zero, suc, ◌+◌, ◌*◌, ◌^◌, ◌<◌, ◌≤◌, max, Bool, true, false, List, [], ◌∷◌, length, get_or, ℤ, pos, neg_ℤ, ◌+ℤ◌, ◌-ℤ◌, ◌*ℤ◌, ◌≤ℤ◌, ◌<ℤ◌, nat_abs, refl, sym, ap, ◌∙◌, subst, arith, ⊎_elim, mul-le-mul_left}
-use Rattle.std.specs.Prelude.{Option, Some, None, IfSome, All, Any, IsTrue, int_lt}
+use Rattle.std.proofs.Common.{◌≡◌, ◌⊎◌, inl, inr, ℕ, suc, ◌<◌, ◌≤◌, Bool, true, false, List, [], ◌∷◌, length, get_or, ℤ, pos, neg_ℤ, ◌+ℤ◌, ◌-ℤ◌, ◌*ℤ◌, ◌≤ℤ◌, ◌<ℤ◌, nat_abs, refl, sym, ap, ◌∙◌, subst, arith, mul-le-mul_left}
+use Rattle.std.specs.Prelude.{Option, Some, None, IfSome, All, Any, int_lt}
 use Rattle.std.specs.Option.{IsSomeAnd}
 use Rattle.std.proofs.lemmas.Bool.{cond_both}
 use Rattle.std.proofs.lemmas.List.{get_or_default}
@@ -15,12 +15,12 @@ use Rattle.whole_rows.specs.WholeRows.{WholeRow, WholeRows, LiesIn, bounds_at, r
 use Rattle.whole_rows.specs.Ends.{value_at, sum_at, ReachesSides}
 use Rattle.whole_rows.specs.EndLaws.{least_sum}
 use Rattle.farkas_rows.specs.declared.path.Slice.{Slice}
-use Rattle.farkas_rows.specs.Inequalities.{Inequality, at_most, at_least, cut_inequality}
+use Rattle.farkas_rows.specs.Inequalities.{at_most, at_least, cut_inequality}
 use Rattle.farkas_rows.specs.NodeLaws.{length-negate, LiesIn-at}
 use Rattle.farkas_rows.specs.Refutes.{HasForms}
 use Rattle.plain_slices.specs.declared.node.Source.{Source}
-use Rattle.plain_slices.specs.Shut.{IsColumn, IsFixedBy, LiesInNarrowed, CannotMeet, IsShutByRow, IsShutBySlice, Shut}
-use Rattle.plain_slices.specs.Nodes.{narrowed_at, source_at, IsTight, IsNarrowed, IsOpenBox, IsMeetable}
+use Rattle.plain_slices.specs.Shut.{LiesInNarrowed, CannotMeet, IsShutByRow, IsShutBySlice, Shut}
+use Rattle.plain_slices.specs.Nodes.{narrowed_at, source_at, IsNarrowed, IsOpenBox, IsMeetable}
 use Rattle.plain_slices.specs.declared.side.Side.{Side}
 use Rattle.plain_slices.specs.declared.side.Side.TheVariants.{Upper, Lower}
 use Rattle.plain_slices.specs.Sides.{side_factor, side_form, side_value, side_inequality, IsOutOfReach}
@@ -99,9 +99,9 @@ all-any P Q xs all some clash = clash some.1 (subst P some.3 (all some.0 some.1 
 all-both : {X : Type 0} (P Q : X → Type 0) (xs : List X) → All P xs → All Q xs → All (λ x. P x × Q x) xs
 all-both P Q xs p q = λ k d h. (p k d h, q k d h)
 
-cut-open : (rows : WholeRows) (path : List Slice) (best : Option ℤ) (bounds : List Bounds) (sources : List Source) → IsNarrowed rows path path bounds sources → IsOpenBox bounds → length rows.cost ≡ length rows.box → IfSome best (λ value. ReachesSides rows.cost None (Some (value -ℤ pos 1)) bounds) → IsSomeAnd best (λ value. CannotMeet rows path (cut_inequality rows value)) → ⊥
+cut-open : (rows : WholeRows) (path : List Slice) (best : Option ℤ) (bounds : List Bounds) (sources : List Source) → IsNarrowed rows path path bounds sources → IsOpenBox bounds → length rows.cost ≡ length rows.box → IfSome best (λ value. sum_at Least rows.cost bounds <ℤ value) → IsSomeAnd best (λ value. CannotMeet rows path (cut_inequality rows value)) → ⊥
 cut-open rows path None bounds sources narrowed open_box priced reaches h = h
-cut-open rows path (Some value) bounds sources narrowed open_box priced reaches h = can-meet rows path bounds sources rows.cost (value -ℤ pos 1) narrowed open_box priced reaches.1 h
+cut-open rows path (Some value) bounds sources narrowed open_box priced reaches h = can-meet rows path bounds sources rows.cost (value -ℤ pos 1) narrowed open_box priced (omega linear) h
 
 -- A node whose sides can all be reached within the narrowed box is not shut.
 pub meetable-open : (rows : WholeRows) (path : List Slice) (best : Option ℤ) (bounds : List Bounds) (sources : List Source) → IsWithinLimits rows → HasForms (length rows.box) path → IsNarrowed rows path path bounds sources → IsMeetable rows path best bounds → Shut rows path best → ⊥
@@ -123,6 +123,7 @@ crossing-shut rows path best bounds sources column narrowed h crosses = by_sourc
     none x lies =
         let between = LiesIn-at bounds x column (record { low = pos 0; high = pos 0 }) ((narrowed.points x).1 lies) (omega (arith, narrowed.dense)) in
         absurd (omega (linear, between.0, between.1))
+
     by_source : (fixed : Bool) → (source_at sources column).is_fixed ≡ fixed → Shut rows path best
     by_source true e =
         let some = (narrowed.tight column h).fixed.0 e in

@@ -1,5 +1,5 @@
 -- The forms and the inequalities of the two sides.
-use Rattle.std.proofs.Common.{◌≡◌, ℕ, ◌+◌, ◌*◌, ◌^◌, ◌<◌, ◌≤◌, List, [], ◌∷◌, length, get_or, map, ℤ, pos, negsuc, neg_ℤ, ◌+ℤ◌, ◌*ℤ◌, ◌≤ℤ◌, ◌<ℤ◌, nat_abs, refl, sym, ap, ap₂, ◌∙◌, arith, mul-le-mul_left, ◌-ℤ◌, FitsSigned, to_z, of_z}
+use Rattle.std.proofs.Common.{◌≡◌, ℕ, ◌+◌, ◌*◌, ◌^◌, ◌<◌, ◌≤◌, List, [], ◌∷◌, length, get_or, ℤ, pos, neg_ℤ, ◌*ℤ◌, ◌<ℤ◌, nat_abs, refl, sym, ap, ap₂, ◌∙◌, arith, mul-le-mul_left, ◌-ℤ◌, FitsSigned, to_z, of_z}
 use Rattle.std.specs.Prelude.{int_lt, Option, Some, None}
 use Rattle.std.specs.Option.{IsSomeAnd}
 use Rattle.std.specs.List.{sum_by}
@@ -8,7 +8,7 @@ use Rattle.std.specs.Int.{w128}
 use Rattle.std.proofs.lemmas.Int.{to_z-of_z}
 use Rattle.std.proofs.lemmas.Bool.{cond_both}
 use Rattle.exact_math.specs.Ring.{integers}
-use Rattle.exact_math.specs.IntegerRing.{linear, mul_comm, mul_neg, neg_mul, mul_zero, zero_mul}
+use Rattle.exact_math.specs.IntegerRing.{linear, neg_mul, zero_mul}
 use Rattle.exact_vectors.specs.Vectors.{negate}
 use Rattle.whole_rows.specs.declared.bounds.Bounds.{Bounds}
 use Rattle.whole_rows.specs.declared.ends.End.TheVariants.{Least, Greatest}
@@ -49,7 +49,7 @@ turned_product : (a : ℤ) (b : Bounds) → neg_ℤ a *ℤ value_at Least (neg_�
 turned_product a b = cond_both (int_lt (neg_ℤ a) (pos 0)) b.high b.low (λ v. neg_ℤ a *ℤ v ≡ neg_ℤ (a *ℤ value_at Greatest a b))
     (λ e. cond_both (int_lt a (pos 0)) b.low b.high (λ w. neg_ℤ a *ℤ b.high ≡ neg_ℤ (a *ℤ w)) (λ f. absurd (omega linear)) (λ f. neg_mul a b.high))
     (λ e. cond_both (int_lt a (pos 0)) b.low b.high (λ w. neg_ℤ a *ℤ b.low ≡ neg_ℤ (a *ℤ w)) (λ f. neg_mul a b.low)
-      (λ f. let z : a ≡ pos 0 = omega linear in neg_mul a b.low ∙ ap neg_ℤ (ap (λ (t : ℤ). t *ℤ b.low) z ∙ zero_mul b.low ∙ sym (zero_mul b.high) ∙ ap (λ (t : ℤ). t *ℤ b.high) (sym z))))
+    (λ f. let z : a ≡ pos 0 = omega linear in neg_mul a b.low ∙ ap neg_ℤ (ap (λ (t : ℤ). t *ℤ b.low) z ∙ zero_mul b.low ∙ sym (zero_mul b.high) ∙ ap (λ (t : ℤ). t *ℤ b.high) (sym z))))
 
 -- so is the least sum of a turned form
 pub sum_at-turned : (form : List ℤ) (bounds : List Bounds) → sum_at Least (negate integers form) bounds ≡ neg_ℤ (sum_at Greatest form bounds)

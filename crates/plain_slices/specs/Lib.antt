@@ -5,3 +5,4 @@ pub mod Shut
 pub mod Nodes
 pub mod Sides
 pub mod NodeViews
+pub mod PlainMoves

@@ -1,10 +1,11 @@
 -- The box of a node, narrowed by the slices that fix a column, and the inequalities that bound each column there.
-use Rattle.std.specs.Prelude.{◌≡◌, ◌↔◌, ℕ, ◌+◌, ◌*◌, ◌^◌, ◌<◌, ◌≤◌, ℤ, pos, ◌-ℤ◌, ◌≤ℤ◌, ◌<ℤ◌, Bool, true, false, IsTrue, int_lt, List, length, All, Option, None, Some, IfSome, if◌then◌else◌, slice_index_or}
+use Rattle.std.specs.Prelude.{◌≡◌, ◌↔◌, ℕ, ◌+◌, ◌*◌, ◌^◌, ◌<◌, ◌≤◌, ℤ, pos, ◌≤ℤ◌, ◌<ℤ◌, Bool, true, false, IsTrue, int_lt, List, length, All, Option, None, Some, IfSome, if◌then◌else◌, slice_index_or}
 use Rattle.exact_math.specs.Ring.{integers}
 use Rattle.exact_vectors.specs.Vectors.{negate}
 use Rattle.whole_rows.specs.declared.bounds.Bounds.{Bounds}
 use Rattle.whole_rows.specs.WholeRows.{WholeRow, WholeRows, LiesIn, bounds_at, span}
-use Rattle.whole_rows.specs.Ends.{ReachesSides}
+use Rattle.whole_rows.specs.Ends.{sum_at, ReachesSides}
+use Rattle.whole_rows.specs.declared.ends.End.TheVariants.{Least}
 use Rattle.farkas_rows.specs.declared.path.Slice.{Slice}
 use Rattle.farkas_rows.specs.Inequalities.{at_most, at_least, unit, inequality_at}
 use Rattle.farkas_rows.specs.Refutes.{HasForms}
@@ -80,4 +81,4 @@ pub record IsMeetable (rows : WholeRows) (path : List Slice) (best : Option ℤ)
   pub open_box : IsOpenBox bounds
   pub rows_reach : All (λ (row : WholeRow). ReachesSides row.factors row.low row.high bounds) rows.rows
   pub slices_reach : All (λ (slice : Slice). ReachesSides slice.form (Some slice.beta) (Some slice.beta) bounds) path
-  pub cut_reaches : IfSome best (λ value. ReachesSides rows.cost None (Some (value -ℤ pos 1)) bounds)
+  pub cut_reaches : IfSome best (λ value. sum_at Least rows.cost bounds <ℤ value)

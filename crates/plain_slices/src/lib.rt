@@ -2,15 +2,17 @@
 #![tactic(auto)]
 
 mod ends;
+mod items;
+mod lines;
+mod moves;
+mod node;
 mod refute;
 mod search;
 mod side;
-mod items;
-mod lines;
-mod node;
 mod single;
 #[cfg(test)]
 mod tests;
 
+pub use moves::plain_move;
 pub use search::plain_point;
 pub use sequence::NoMemory;

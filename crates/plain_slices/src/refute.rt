@@ -2,7 +2,8 @@
 ghost use Rattle.std.specs.Prelude.{◌≡◌, ℤ, pos, ◌+ℤ◌, ◌-ℤ◌, ◌≤ℤ◌, ◌<ℤ◌, ℕ, ◌^◌, ◌<◌, ◌≤◌, length, Option, Some, None, All, Any, IfSome, IfNone, IfOk, MatchOption};
 ghost use Rattle.std.specs.Option.{IsSomeAnd};
 ghost use Rattle.whole_rows.specs.WholeRows.{span};
-ghost use Rattle.whole_rows.specs.Ends.{ReachesSides};
+ghost use Rattle.whole_rows.specs.declared.ends.End.TheVariants.{Least};
+ghost use Rattle.whole_rows.specs.Ends.{sum_at, ReachesSides};
 ghost use Rattle.farkas_rows.specs.Inequalities.{cut_inequality};
 ghost use Rattle.farkas_rows.specs.Refutes.{Refutes};
 ghost use Rattle.proof_tree.specs.Trees.{IsOfSize};
@@ -18,7 +19,7 @@ use crate::side::side_out_of_reach;
 use farkas_rows::Line;
 use sequence::NoMemory;
 use std::alloc::Global;
-use whole_rows::Bounds;
+use whole_rows::{Bounds, End};
 
 /// The first column whose bounds cross.
 fn crossing(bounds: &[Bounds]) -> Option<usize>
@@ -104,5 +105,63 @@ impl Node<'_> {
             }
         }
         Ok(None)
+    }
+
+    /// The line of the cut with the best value, where no sum of the costs within the narrowed box is below that value.
+    fn line_of_best(&self, alloc: Global, best: Option<i128>) -> Result<Option<Line>, NoMemory>
+        requires node { IsNode self.now }
+        requires open_box { IsOpenBox self.now.bounds.items }
+        requires best { IfSome best (IsOfSize (2 ^ 97)) }
+        ensures none { IfOk result (λ found. IfNone found (IfSome best (λ value. sum_at Least self.now.rows.now.cost self.now.bounds.items <ℤ value))) }
+        ensures some { IfOk result (λ found. IfSome found (λ line. IsSomeAnd best (λ value. CannotMeet self.now.rows.now self.now.path.now (cut_inequality self.now.rows.now value)))) }
+        ensures cut { IfOk result (λ found. IfSome found (λ line. IfSome line.cut (λ cut. best ≡ Some cut.value))) }
+        ensures refutes { IfOk result (λ found. IfSome found (Refutes self.now.rows.now self.now.path.now None)) }
+    {
+        let Some(value) = best else {
+            return Ok(None);
+        };
+        let least = End::Least.sum(self.rows.cost(), &self.bounds);
+        if least < value {
+            return Ok(None);
+        }
+        let line = self.line_of_cut(alloc, value)?;
+        Ok(Some(line))
+    }
+
+    /// The line of the two bounds of the first column at which those of the narrowed box cross.
+    fn line_of_crossing(&self, alloc: Global) -> Result<Option<Line>, NoMemory>
+        requires node { IsNode self.now }
+        ensures none { IfOk result (λ found. IfNone found (IsOpenBox self.now.bounds.items)) }
+        ensures some { IfOk result (λ found. IfSome found (λ line. (best : Option ℤ) → Shut self.now.rows.now self.now.path.now best)) }
+        ensures cut { IfOk result (λ found. IfSome found (λ line. line.cut ≡ None)) }
+        ensures refutes { IfOk result (λ found. IfSome found (Refutes self.now.rows.now self.now.path.now None)) }
+    {
+        let Some(column) = crossing(&self.bounds) else {
+            return Ok(None);
+        };
+        let source = self.sources[column];
+        let line = line_of_pair(alloc, source.above, source.below)?;
+        Ok(Some(line))
+    }
+
+    /// The line that closes the node, where it is shut.
+    pub(crate) fn refute(&self, alloc: Global, best: Option<i128>) -> Result<Option<Line>, NoMemory>
+        requires node { IsNode self.now }
+        requires path { IsPathWithin self.now.rows.now self.now.path.now }
+        requires best { IfSome best (IsOfSize (2 ^ 97)) }
+        ensures none { IfOk result (λ found. IfNone found (IsMeetable self.now.rows.now self.now.path.now best self.now.bounds.items)) }
+        ensures shut { IfOk result (λ found. IfSome found (λ line. Shut self.now.rows.now self.now.path.now best)) }
+        ensures closes { IfOk result (λ found. IfSome found (ClosesUnder self.now.rows.now best self.now.path.now None)) }
+    {
+        if let Some(line) = self.line_of_crossing(alloc)? {
+            return Ok(Some(line));
+        }
+        if let Some(line) = self.line_of_rows(alloc)? {
+            return Ok(Some(line));
+        }
+        if let Some(line) = self.line_of_slices(alloc)? {
+            return Ok(Some(line));
+        }
+        self.line_of_best(alloc, best)
     }
 }

@@ -1,4 +1,5 @@
 pub mod Finding
+pub mod Held
 pub mod Nodes
 pub mod Parts
 pub mod Settling

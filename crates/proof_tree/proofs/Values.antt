@@ -81,3 +81,15 @@ rest_fits count j n few many within = fits_signed_from_abs w128 (count -ℤ j) (
 
 pub count_fits : (count : ℤ) → pos 0 ≤ℤ count → count ≤ℤ pos (2 ^ 98) → FitsSigned w128 count
 count_fits count low high = fits_signed_from_abs w128 count (omega linear)
+
+-- the value behind the last slice of a split
+pub sum_fits : (lo count : ℤ) → IsOfSize (2 ^ 97) lo → pos 0 ≤ℤ count → count ≤ℤ pos (2 ^ 98) → FitsSigned w128 (lo +ℤ count)
+sum_fits lo count size low high = fits_signed_from_abs w128 (lo +ℤ count) (omega linear)
+
+-- the value of the next child fits
+pub next_value : (lo value : ℤ) (i : ℕ) → IsOfSize (2 ^ 97) lo → value ≡ lo +ℤ pos i → i < 2 ^ 64 → to_z w128 (of_z w128 (value +ℤ pos 1)) ≡ value +ℤ pos 1
+next_value lo value i size is small = to_z-of_z w128 (value +ℤ pos 1) (fits_signed_from_abs w128 (value +ℤ pos 1) (omega linear))
+
+-- the first value of a split fits
+pub lo_fits : (lo : ℤ) → IsOfSize (2 ^ 97) lo → FitsSigned w128 lo
+lo_fits lo size = fits_signed_from_abs w128 lo (omega linear)

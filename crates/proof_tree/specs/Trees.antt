@@ -28,11 +28,15 @@ pub record IsSplitForm (rows : WholeRows) (form : List ℤ) : Type 0 where
   pub some : ¬ (All (λ factor. factor ≡ pos 0) form)
   pub light : span form rows.box ≤ 2 ^ 96
 
+-- each cut that a line uses has a value of at least `last`, and none is used where that is none
+abbrev pub CutHolds : Option ℤ → Option CutUse → Type 0
+CutHolds last cut = IfSome cut (λ (cut : CutUse). IsSomeAnd last (λ least. least ≤ℤ cut.value) × IsOfSize (2 ^ 97) cut.value)
+
 -- The line shows that no point on the path, within the end, has a cut value below `last`, or that none is there at all where
 -- `last` is none: it refutes them, and each cut that it uses has a value of at least `last`.
 pub record Closes (rows : WholeRows) (last : Option ℤ) (path : List Slice) (end : Option Inequality) (line : Line) : Type 0 where
   pub refutes : Refutes rows path end line
-  pub cut : IfSome line.cut (λ (cut : CutUse). IsSomeAnd last (λ least. least ≤ℤ cut.value) × IsOfSize (2 ^ 97) cut.value)
+  pub cut : CutHolds last line.cut
 
 -- a split whose two ends are closed
 pub record IsSplit (rows : WholeRows) (last : Option ℤ) (path : List Slice) (cut : Cut) : Type 0 where
@@ -53,3 +57,8 @@ abbrev mutual
   pub HoldEach : WholeRows → Option ℤ → List Slice → List ℤ → ℤ → ℤ → {m : _} → Row_of-Tree m → Type 0
   HoldEach rows last path form from until end_of-Tree = from ≡ until
   HoldEach rows last path form from until (more_of-Tree child rest) = Holds rows last (on_slice path form from) child × HoldEach rows last path form (from +ℤ pos 1) until rest
+
+-- the same of children in a list
+abbrev pub HoldsList : WholeRows → Option ℤ → List Slice → List ℤ → ℤ → ℤ → List Tree → Type 0
+HoldsList rows last path form from until [] = from ≡ until
+HoldsList rows last path form from until (child ∷ rest) = Holds rows last (on_slice path form from) child × HoldsList rows last path form (from +ℤ pos 1) until rest

@@ -1,5 +1,8 @@
 //! What a search tree is made of.
+ghost use Rattle.std.specs.Prelude.{◌≡◌, [], ◌∷◌, ◌++◌, OnOk, OnErr, IfErr};
+
 use farkas_rows::Line;
+use sequence::NoMemory;
 use spaces::{Form, Original, Vect};
 
 /// Which rule chose a split.
@@ -52,6 +55,20 @@ pub struct Split {
 #[cycle(tree)]
 pub struct Forest {
     pub trees: Vec<Tree>,
+}
+
+impl Forest {
+    /// Puts a tree at the end. Where no memory is to be had, the tree comes back.
+    pub fn push(&mut self, tree: Tree) -> Result<(), (Tree, NoMemory)>
+        ensures ok { OnOk result (self.new.trees.items ≡ self.old.trees.items ++ tree ∷ []) }
+        ensures err { OnErr result (self.new.trees.items ≡ self.old.trees.items) }
+        ensures back { IfErr result (λ refused. refused.0 ≡ tree) }
+    {
+        match self.trees.push(tree) {
+            Ok(()) => Ok(()),
+            Err(refused) => Err((refused.value, NoMemory)),
+        }
+    }
 }
 
 /// A tree of which some nodes were not worked.

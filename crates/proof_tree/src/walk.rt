@@ -9,13 +9,13 @@ ghost use Rattle.proof_tree.specs.Found.{IsFound};
 ghost use Rattle.proof_tree.specs.Search.{value_of_best, point_of_best, IsKnown, StaysAt, Settles, Worked, move_of};
 
 use crate::brancher::Brancher;
+use crate::steps::{go_down, go_up};
 use crate::tree::{Cut, Move, PartSplit, PartTree, Searched};
 use crate::whole::whole_tree;
-use farkas_rows::{Line, Path, Slice};
+use farkas_rows::{Line, Path};
 use sequence::NoMemory;
-use spaces::{Form, Original, Vect};
+use spaces::{Original, Vect};
 use std::alloc::Global;
-use std::mem;
 use whole_rows::DenseRows;
 
 /// The best point that is known, with its cut value.
@@ -66,9 +66,7 @@ impl Walk {
         ensures path { OnOk result (self.new ≡ record self.old { path = on_slice self.old.path cut.old.form (cut.old.lo +ℤ j) }) }
         ensures form { OnOk result (cut.new ≡ record cut.old { form = [] }) }
     {
-        let form = mem::replace(&mut cut.form, Form::of(Vec::new(alloc)));
-        let beta = cut.lo + j;
-        self.path.push(Slice { form, beta })
+        go_down(alloc, &mut self.path, &mut cut.form, cut.lo + j)
     }
 
     /// Goes up from a slice of a split. The form moves from the path back to the split.
@@ -76,9 +74,7 @@ impl Walk {
         ensures path { (path : List Slice) (form : List ℤ) (beta : ℤ) → self.old.path ≡ on_slice path form beta → self.new ≡ record self.old { path = path } }
         ensures form { (path : List Slice) (form : List ℤ) (beta : ℤ) → self.old.path ≡ on_slice path form beta → cut.new ≡ record cut.old { form = form } }
     {
-        if let Some(slice) = self.path.pop() {
-            cut.form = slice.form;
-        }
+        go_up(&mut self.path, &mut cut.form);
     }
 }
 

@@ -7,9 +7,7 @@ use Rattle.std.proofs.lemmas.List.{append-nil}
 use Rattle.std.proofs.lemmas.List.Folds.{list_all-append, list_any-append}
 use Rattle.std.proofs.lemmas.Bool.{and_parts}
 use Rattle.mps_fields.specs.BooleanLaws.{either}
-
-one_more : (n : ℕ) → 1 + n ≡ suc n
-one_more n = omega arith
+use Rattle.mps_fields.specs.FrontLaws.{one_more}
 
 pub two_more : (n : ℕ) → 1 + n + 1 ≡ suc (n + 1)
 two_more n = omega arith

@@ -1,5 +1,5 @@
 -- The rows of the model from their kinds, names, sides and items.
-use Rattle.std.proofs.Common.{◌≡◌, ℕ, zero, suc, ◌+◌, ◌<◌, length, get_or, take, Bool, true, false, cond, List, [], ◌∷◌, ◌++◌, map, filter, Option, Some, slice_get, refl, sym, ap, ap₂, subst, ◌∙◌, arith}
+use Rattle.std.proofs.Common.{◌≡◌, ℕ, zero, suc, ◌+◌, ◌<◌, length, get_or, take, Bool, true, false, cond, List, [], ◌∷◌, ◌++◌, map, filter, Option, Some, slice_get, refl, sym, ap, ap₂, ◌∙◌, arith}
 use Rattle.std.specs.Prelude.{unwrap_or}
 use Rattle.std.proofs.lemmas.List.{append-nil, map-append}
 use Rattle.std.proofs.lemmas.List.Elements.{filter_more}
@@ -9,7 +9,7 @@ use Rattle.int_model.specs.declared.model.Row.{Row}
 use Rattle.mps_model.specs.declared.tables.row_kind.RowKind.{RowKind}
 use Rattle.mps_model.specs.declared.model.row_sides.RowSides.{RowSides}
 use Rattle.mps_model.specs.declared.tables.sides.SideTable.{SideTable}
-use Rattle.mps_model.specs.Tables.{RowLine, Tables}
+use Rattle.mps_model.specs.Tables.{Tables}
 use Rattle.mps_model.specs.Sides.{Sides, zero_ℚ, number_beside, pairs_of, side_of, ranged_sides, sides_of}
 use Rattle.mps_model.specs.StatedModel.{items_of, stated_row}
 use Rattle.mps_model.specs.RowFaults.{row_names}

@@ -1,7 +1,6 @@
 -- What one more line of COLUMNS, and one more pair on it, do to the items of a row and to the last column beside it.
 use Rattle.std.proofs.Common.{◌≡◌, ℕ, ◌<◌, length, Bool, true, false, cond, ◌||◌, List, [], ◌∷◌, ◌++◌, filter, Option, Some, None, refl, sym, ap, ◌∙◌, arith, append_assoc}
 use Rattle.std.specs.Prelude.{bytes_eq, filter_map, option_map, option_and_then}
-use Rattle.std.specs.Option.{option_or}
 use Rattle.std.specs.List.{list_all, last_or, cons_option, position_or_len}
 use Rattle.std.proofs.Math.Bool.{or-false}
 use Rattle.std.proofs.lemmas.Bool.{or_right, and_parts, and_from}
@@ -23,7 +22,7 @@ use Rattle.mps_model.proofs.OnLists.NameListLaws.{distinct_last, all_among, filt
 use Rattle.mps_model.specs.KeptSides.{names_in}
 use Rattle.mps_model.proofs.OnLists.FirstPlaceLaws.{bytes_same, bytes_flip}
 use Rattle.mps_model.proofs.OnLists.DistinctNameLaws.{column_names_distinct}
-use Rattle.mps_model.proofs.OnTables.PairLaws.{or_none, none_from, beside_push, beside_found}
+use Rattle.mps_model.proofs.OnTables.PairLaws.{none_from, beside_new, beside_other, beside_found}
 use Rattle.mps_model.proofs.OnTables.ColumnLineLaws.{lines_of_column-entries, lines_of_column-marker, column_names-marker, column_names_fresh, column_names_known, column_names_same, lines_of_column_none}
 
 -- ---- over any columns and their pairs
@@ -154,15 +153,11 @@ number_beside_none : (pairs : List Pair) (row : List ℕ) → is_among (names_in
 number_beside_none pairs row none = none_from (number_beside pairs row) (beside_found pairs row ∙ none)
 
 number_beside_push : (pairs : List Pair) (pair : Pair) → is_among (names_in pairs) pair.name ≡ false → number_beside (pairs ++ pair ∷ []) pair.name ≡ Some (number_at pair.number)
-number_beside_push pairs pair none =
-    beside_push pairs pair pair.name
-    ∙ ap (λ o. option_or o (cond (bytes_eq pair.name pair.name) (Some (number_at pair.number)) None)) (number_beside_none pairs pair.name none)
-    ∙ ap (λ b. cond b (Some (number_at pair.number)) None) (bytes_same pair.name)
+number_beside_push pairs pair none = beside_new pairs pair (number_beside_none pairs pair.name none)
 
 number_beside_other : (pairs : List Pair) (pair : Pair) (b : Bool) (row : List ℕ) → bytes_eq pair.name row ≡ false
     → number_beside (pairs ++ cond b (pair ∷ []) []) row ≡ number_beside pairs row
-number_beside_other pairs pair true row differ =
-    beside_push pairs pair row ∙ ap (λ b. option_or (number_beside pairs row) (cond b (Some (number_at pair.number)) None)) differ ∙ or_none (number_beside pairs row)
+number_beside_other pairs pair true row differ = beside_other pairs pair row differ
 number_beside_other pairs pair false row differ = ap (λ found. number_beside found row) (append-nil pairs)
 
 pub names_in-push : (pairs : List Pair) (pair : Pair) (row : List ℕ) → is_among (names_in (pairs ++ pair ∷ [])) row ≡ (is_among (names_in pairs) row || bytes_eq row pair.name)

@@ -1,6 +1,6 @@
 -- What the code's tables keep where all lines are taken.
-use Rattle.std.proofs.Common.{◌≡◌, ℕ, true, true≢false, List, length, Option, Some, None, refl, sym, ap, subst, ◌∙◌}
-use Rattle.std.specs.Prelude.{is_some, slice_get, unwrap_or, IfSome, IsSomeAnd}
+use Rattle.std.proofs.Common.{◌≡◌, true, true≢false, List, length, Option, Some, None, sym, ap, subst, ◌∙◌}
+use Rattle.std.specs.Prelude.{is_some, IfSome, IsSomeAnd}
 use Rattle.std.specs.List.{list_any}
 use Rattle.std.proofs.lemmas.List.{length-map}
 use Rattle.mps_fields.specs.Lines.{Line}
@@ -9,7 +9,7 @@ use Rattle.mps_model.specs.declared.lines.section.Section.TheVariants.{Columns a
 use Rattle.mps_model.specs.declared.tables.columns.ColumnTable.{ColumnTable}
 use Rattle.mps_model.specs.declared.tables.text_tables.TextTables.{TextTables}
 use Rattle.mps_model.specs.SectionOrder.{is_same, sections_in}
-use Rattle.mps_model.specs.Tables.{RowLine, tables_of}
+use Rattle.mps_model.specs.Tables.{tables_of}
 use Rattle.mps_model.specs.Bounds.{column_names}
 use Rattle.mps_model.specs.RowFaults.{row_names}
 use Rattle.mps_model.specs.FactorTables.{factors_of}

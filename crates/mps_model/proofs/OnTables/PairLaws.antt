@@ -47,11 +47,10 @@ beside_push pairs pair name =
     ∙ ap (option_or (number_beside pairs name)) (map_cond (λ other. number_at other.number) (bytes_eq pair.name name) pair)
 
 -- with its own pair a name that had none has its number, and each other name what it had
-pub beside_new : (pairs : List Pair) (pair : Pair) (q : ℚ) → number_of pair.number ≡ Ok q → number_beside pairs pair.name ≡ None
-    → number_beside (pairs ++ pair ∷ []) pair.name ≡ Some q
-beside_new pairs pair q value none =
+pub beside_new : (pairs : List Pair) (pair : Pair) → number_beside pairs pair.name ≡ None → number_beside (pairs ++ pair ∷ []) pair.name ≡ Some (number_at pair.number)
+beside_new pairs pair none =
     beside_push pairs pair pair.name ∙ ap (λ o. option_or o (cond (bytes_eq pair.name pair.name) (Some (number_at pair.number)) None)) none
-    ∙ ap (λ b. cond b (Some (number_at pair.number)) None) (bytes_same pair.name) ∙ ap (λ r. Some (number_or_zero r)) value
+    ∙ ap (λ b. cond b (Some (number_at pair.number)) None) (bytes_same pair.name)
 
 pub beside_other : (pairs : List Pair) (pair : Pair) (other : List ℕ) → bytes_eq pair.name other ≡ false → number_beside (pairs ++ pair ∷ []) other ≡ number_beside pairs other
 beside_other pairs pair other differ =
@@ -112,7 +111,7 @@ module _ (names : List (List ℕ)) (distinct : IsDistinct bytes_eq names) (pairs
       let none : number_beside pairs pair.name ≡ None = none_from (number_beside pairs pair.name) (beside_found pairs pair.name ∙ sym place_taken ∙ free) in
       ap (λ ns. set ns place (Some q)) kept
       ∙ sym (map_at (number_beside pairs) (number_beside (pairs ++ pair ∷ [])) (Some q) pair.name names place distinct first
-      (beside_new pairs pair q value none) (beside_other pairs pair))
+      (beside_new pairs pair none ∙ ap (λ r. Some (number_or_zero r)) value) (beside_other pairs pair))
 
 -- ---- the faults of a pair
 

@@ -14,7 +14,7 @@ use Rattle.mps_model.specs.declared.fault.FaultKind.TheVariants as faults
 use Rattle.mps_model.specs.declared.tables.row_kind.RowKind.{RowKind}
 use Rattle.mps_model.specs.declared.tables.sides.SideTable.{SideTable}
 use Rattle.mps_model.specs.Tables.{RowLine, Pair, PairLine, Tables}
-use Rattle.mps_model.specs.Sides.{is_free_row, has_sides, zero_ℚ, number_beside, pairs_of, side_in, side_of, range_step, sum_fits}
+use Rattle.mps_model.specs.Sides.{number_or_zero, is_free_row, has_sides, zero_ℚ, number_beside, pairs_of, side_in, side_of, range_step, sum_fits}
 use Rattle.mps_model.specs.FaultRules.{first_holding, is_among, is_not_number, is_wide_number}
 use Rattle.mps_model.specs.RowFaults.{row_names}
 use Rattle.mps_model.specs.PairFaults.{row_named, has_wide_side, range_fault}
@@ -119,7 +119,7 @@ module _ (sides : List PairLine) (rows : List RowLine) (distinct : IsDistinct by
       let row = row_of kind pair.name in
       let none : number_beside pairs pair.name ≡ None = none_from (number_beside pairs pair.name) (beside_found pairs pair.name ∙ sym end_taken ∙ free) in
       let at : get_or rows place row ≡ row = get_or_from_slice_get rows place row row here in
-      let new : end_in sides (pairs ++ pair ∷ []) row ≡ Some end = ap (range_end (side_in sides pair.name) row) (beside_new pairs pair q value none) ∙ ap Some (sym is) in
+      let new : end_in sides (pairs ++ pair ∷ []) row ≡ Some end = ap (range_end (side_in sides pair.name) row) (beside_new pairs pair none ∙ ap (λ r. Some (number_or_zero r)) value) ∙ ap Some (sym is) in
       ap (λ ns. set ns place (Some end)) kept
       ∙ sym (map_changed (λ (other : RowLine). other.name) (end_in sides pairs) (end_in sides (pairs ++ pair ∷ [])) rows place row distinct (slice_get_within rows place row here)
       (λ other differ.

@@ -1,25 +1,17 @@
 -- The test of a sum's range is what the range of exact fractions says.
-use Rattle.std.proofs.Common.{ℕ, ◌/◌, ◌*◌, ◌^◌, ◌<◌, ◌&&◌, Bool, nat_lt, pos, ◌+ℤ◌, ◌*ℤ◌, nat_abs}
-use Rattle.std.proofs.lemmas.Bool.Decides.{Decides-ltb}
+use Rattle.std.proofs.Common.{ℕ, ◌/◌, ◌*◌, ◌^◌, ◌<◌, ◌&&◌, nat_lt, pos, ◌+ℤ◌, ◌*ℤ◌, nat_abs}
+use Rattle.std.proofs.lemmas.Bool.Decides.{Decides-and, Decides-ltb}
 use Rattle.std.specs.Bool.{Decides}
 use Rattle.exact_math.specs.Gcd.{gcd}
 use Rattle.exact_math.specs.Rational.{ℚ}
 use Rattle.frac128.specs.Range.{SumInRange}
-use Rattle.std.proofs.lemmas.Bool.{and_parts, and_from}
 use Rattle.mps_model.specs.Sides.{sum_fits}
-
--- two tests that decide, decide both
-both : {P Q : Type 0} (a b : Bool) → Decides a P → Decides b Q → Decides (a && b) (P × Q)
-both a b f g = (
-  λ t. let two = and_parts a b t in (f.0 two.0, g.0 two.1),
-  λ pq. and_from a b (f.1 pq.0) (g.1 pq.1),
-)
 
 -- four numbers are below another
 four : (a b c d n : ℕ) → Decides (((nat_lt a n && nat_lt b n) && nat_lt c n) && nat_lt d n) ((((a < n) × (b < n)) × (c < n)) × (d < n))
 four a b c d n =
-    both ((nat_lt a n && nat_lt b n) && nat_lt c n) (nat_lt d n)
-    (both (nat_lt a n && nat_lt b n) (nat_lt c n) (both (nat_lt a n) (nat_lt b n) (Decides-ltb a n) (Decides-ltb b n)) (Decides-ltb c n))
+    Decides-and ((nat_lt a n && nat_lt b n) && nat_lt c n) (nat_lt d n)
+    (Decides-and (nat_lt a n && nat_lt b n) (nat_lt c n) (Decides-and (nat_lt a n) (nat_lt b n) (Decides-ltb a n) (Decides-ltb b n)) (Decides-ltb c n))
     (Decides-ltb d n)
 
 pub sum_fits_decides : (p q : ℚ) → Decides (sum_fits p q) (SumInRange p q)

@@ -1,4 +1,4 @@
-use Rattle.std.proofs.Common.{◌≡◌, ◌≢◌, ◌+◌, ◌-◌, ◌≤◌, ◌<◌, ℕ, pos, length, arith, get_or, ap, ⊎_elim}
+use Rattle.std.proofs.Common.{◌≡◌, ◌≢◌, ◌-◌, ◌≤◌, ◌<◌, ℕ, pos, arith, get_or, ap, ⊎_elim}
 use Rattle.std.proofs.lemmas.Bool.{cases_lt}
 use Rattle.std.proofs.lemmas.List.{get_or-map}
 use Rattle.farkas_rows.specs.declared.line.Use.{Use}
@@ -15,7 +15,7 @@ loop-place-preserved c =
     record {
       within = omega arith;
       after = λ k h lt. ⊎_elim
-        (λ (at : k < c.loop-place.place). let same : k ≡ last = omega arith in omega (arith, ap (λ (j : ℕ). get_or (numbers_of items) j 0) same))
-        (λ (above : c.loop-place.place ≤ k). c.loop-place.invariant.after k above lt)
-        (cases_lt k c.loop-place.place);
+          (λ (at : k < c.loop-place.place). let same : k ≡ last = omega arith in omega (arith, ap (λ (j : ℕ). get_or (numbers_of items) j 0) same))
+          (λ (above : c.loop-place.place ≤ k). c.loop-place.invariant.after k above lt)
+          (cases_lt k c.loop-place.place);
     }

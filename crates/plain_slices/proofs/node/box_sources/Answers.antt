@@ -1,4 +1,4 @@
-use Rattle.std.proofs.Common.{◌≡◌, ◌+◌, ◌++◌, ◌∷◌, [], List, length, ap, sym, ap₂, ◌∙◌, zero-add}
+use Rattle.std.proofs.Common.{◌++◌, ◌∷◌, [], List, length, ap, sym, ap₂, ◌∙◌, zero-add}
 use Rattle.std.proofs.lemmas.List.FromFn.{map-range_with_len_more}
 use Rattle.plain_slices.specs.declared.node.Source.{Source}
 use Rattle.plain_slices.specs.Nodes.{box_source}

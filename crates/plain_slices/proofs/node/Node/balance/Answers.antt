@@ -1,8 +1,7 @@
-use Rattle.std.proofs.Common.{◌≡◌, ◌≢◌, ◌≤◌, ◌<◌, ◌^◌, ℕ, false, None, length, get_or, pos, nat_abs, sym, ap, ◌∙◌, subst, arith, rules, FitsSigned, to_z, of_z}
+use Rattle.std.proofs.Common.{◌≡◌, ◌<◌, false, length, get_or, pos, sym, ◌∙◌, arith, rules, FitsSigned}
 use Rattle.std.specs.Int.{w128}
 use Rattle.std.proofs.lemmas.Int.{to_z-of_z}
 use Rattle.std.proofs.lemmas.List.{get_or_default}
-use Rattle.plain_slices.specs.declared.node.Source.{Source}
 use Rattle.plain_slices.specs.Nodes.{source_at}
 use Rattle.plain_slices.specs.Sides.{side_form}
 use Rattle.plain_slices.proofs.SideLaws.{length-side_form, side_form-at, side_factor-size, code_factor, code_factor-size}

@@ -1,4 +1,4 @@
-use Rattle.std.proofs.Common.{◌≡◌, pos, ◌-ℤ◌, None, List, [], length, sym, ◌∙◌, refl}
+use Rattle.std.proofs.Common.{◌≡◌, pos, ◌-ℤ◌, [], length, sym, ◌∙◌, refl}
 use Rattle.std.specs.Int.{w128}
 use Rattle.std.proofs.lemmas.Int.{to_z-of_z}
 use Rattle.plain_slices.specs.Items.{IsBalanced}

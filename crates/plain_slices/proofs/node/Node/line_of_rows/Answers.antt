@@ -1,4 +1,4 @@
-use Rattle.std.proofs.Common.{◌≡◌, None, [], length, get_or, subst, arith, rules, ap, ◌∙◌}
+use Rattle.std.proofs.Common.{None, [], subst, arith}
 use Rattle.std.proofs.lemmas.List.{get_or_default}
 use Rattle.whole_rows.specs.WholeRows.{WholeRow}
 use Rattle.whole_rows.specs.Ends.{ReachesSides}

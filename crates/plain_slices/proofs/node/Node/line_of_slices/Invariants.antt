@@ -1,4 +1,4 @@
-use Rattle.std.proofs.Common.{ℕ, ◌<◌, [], pos, get_or, Some}
+use Rattle.std.proofs.Common.{ℕ, ◌<◌, get_or, Some}
 use Rattle.whole_rows.specs.Ends.{ReachesSides}
 use Rattle.farkas_rows.specs.declared.path.Slice.{Slice}
 use Rattle.plain_slices.proofs.node.Node.line_of_slices.Given as goal

@@ -1,5 +1,4 @@
-use Rattle.std.proofs.Common.{◌≡◌, ◌≤◌, length, arith}
-use Rattle.whole_rows.specs.WholeRows.{span}
+use Rattle.std.proofs.Common.{arith}
 use Rattle.plain_slices.proofs.SideLaws.{span-side_form}
 use Rattle.plain_slices.proofs.ShutLaws.{span-narrowed, out-cannot}
 use Rattle.plain_slices.proofs.node.Node.line_out_of_reach.Goals as goal

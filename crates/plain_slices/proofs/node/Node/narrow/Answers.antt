@@ -1,9 +1,8 @@
-use Rattle.std.proofs.Common.{◌≡◌, ◌+◌, ◌*◌, ◌^◌, ◌<◌, ◌≤◌, length, take, get_or, sym, subst, arith, rules, FitsSigned}
+use Rattle.std.proofs.Common.{◌^◌, sym, subst, arith}
 use Rattle.std.specs.Int.{w128}
 use Rattle.std.proofs.lemmas.Int.{to_z-of_z}
 use Rattle.farkas_rows.specs.declared.path.Slice.{Slice}
 use Rattle.proof_tree.specs.Trees.{IsOfSize}
-use Rattle.plain_slices.specs.Nodes.{signed_unit}
 use Rattle.plain_slices.proofs.BitLaws.{sized_fits, sized_fits_negated, bits-negated}
 use Rattle.plain_slices.proofs.NodeSteps.{narrow-pass, narrow-fix, narrow-fix_negative}
 use Rattle.plain_slices.proofs.node.Node.narrow.Goals as goal

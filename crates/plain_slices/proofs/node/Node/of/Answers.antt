@@ -1,4 +1,4 @@
-use Rattle.std.proofs.Common.{◌≡◌, length, refl, sym, ◌∙◌, rules}
+use Rattle.std.proofs.Common.{refl, ◌∙◌}
 use Rattle.plain_slices.proofs.NodeSteps.{IsNarrowed-box}
 use Rattle.plain_slices.proofs.node.Node.of.Goals as goal
 

@@ -1,0 +1,26 @@
+use Rattle.std.proofs.Common.{◌≡◌, ◌^◌, pos, ◌+ℤ◌, ◌≤ℤ◌, refl, arith, rules, FitsSigned, to_z, of_z}
+use Rattle.std.specs.Int.{w128}
+use Rattle.std.proofs.lemmas.Int.{ints, to_z-of_z}
+use Rattle.proof_tree.specs.Trees.{IsSplit}
+use Rattle.proof_tree.proofs.Values.{sum_fits}
+use Rattle.proof_tree.proofs.judge.is_split.Goals as goal
+
+pub returns-then-closes : goal.returns-then-closes
+returns-then-closes c =
+    let lo_fits : FitsSigned w128 c.args.cut.now.lo = search rules in
+    let count_fits : FitsSigned w128 c.args.cut.now.count = search rules in
+    let lo_is : to_z w128 (of_z w128 c.args.cut.now.lo) ≡ c.args.cut.now.lo = to_z-of_z w128 c.args.cut.now.lo lo_fits in
+    let count_is : to_z w128 (of_z w128 c.args.cut.now.count) ≡ c.args.cut.now.count = to_z-of_z w128 c.args.cut.now.count count_fits in
+    let size = rw lo_is at (c.if-not-is_value.ensures.0 refl) in
+    let low : pos 0 ≤ℤ c.args.cut.now.count = omega (arith, ints, rw count_is at c.if-cut-lt0.false) in
+    let high : c.args.cut.now.count ≤ℤ pos (2 ^ 98) = omega (arith, ints, rw count_is at c.if-cut-gt-MOST_SLICES.false) in
+    let sum_is = to_z-of_z w128 (c.args.cut.now.lo +ℤ c.args.cut.now.count) (sum_fits c.args.cut.now.lo c.args.cut.now.count size low high) in (
+      λ t. record {
+        form = rw c.items.ensures at (c.if-not-is_split_form.ensures.0 refl);
+        lo = size;
+        count = (low, high);
+        below = rw lo_is at (c.if-closes.ensures.0 refl);
+        above = rw (lo_is, count_is, sum_is) at (c.closes-then-closes.ensures.0 t);
+      },
+      λ (split : IsSplit c.args.rows.now c.args.last c.args.path.now c.args.cut.now). c.closes-then-closes.ensures.1 (rw (lo_is, count_is, sum_is) split.above),
+    )
