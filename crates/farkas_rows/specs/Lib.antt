@@ -1,3 +1,4 @@
+pub mod Added
 pub mod Inequalities
 pub mod Ends
 pub mod Refutes

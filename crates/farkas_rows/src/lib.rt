@@ -1,6 +1,7 @@
 //! Lines: combinations of a node's inequalities that show that no point is there.
 #![tactic(auto)]
 
+mod combination;
 mod judge;
 mod laws;
 mod line;
@@ -8,8 +9,12 @@ mod node;
 mod path;
 mod side;
 
+pub use combination::Combination;
 pub use judge::{refutes, weigh};
 pub use laws::refuted_node_has_no_point;
 pub use line::{CutUse, End, Line, Use, Uses, Weight};
 pub use path::{Path, Slice};
 pub use sequence::NoMemory;
+
+#[cfg(test)]
+mod tests;

@@ -24,7 +24,7 @@ use Rattle.int_model.specs.ItemFactors.{factors_in, row_scale}
 use Rattle.int_model.proofs.CoefficientLaws.{coefficient-at, coefficient_of-item, of_coefficients}
 use Rattle.int_model.proofs.ScaleLaws.{common_denominator_pos}
 use Rattle.int_model.proofs.LargeLaws.{common_denominator-push, common_denominator-take, coefficients_long}
-use Rattle.int_model.proofs.ScalingLaws.{den_dvd_common, common_numerator-push, quotient_in_range}
+use Rattle.int_model.proofs.MultipleLaws.{den_dvd_common, common_numerator-push, quotient_in_range}
 
 -- ---- one item after another
 

@@ -17,20 +17,21 @@ use Rattle.exact_math.specs.RationalOrder as order
 use Rattle.exact_math.specs.RationalFloor.{whole-is}
 use Rattle.exact_math.specs.LcmLaws.{dvd_lcm_left, dvd_lcm_right}
 use Rattle.frac128.specs.Range.{ProductInRange}
-use Rattle.int_model.specs.declared.bounds.Bounds.{Bounds}
+use Rattle.whole_rows.specs.declared.bounds.Bounds.{Bounds}
 use Rattle.int_model.specs.declared.model.Item.{Item}
 use Rattle.int_model.specs.declared.model.Model.{Model}
 use Rattle.int_model.specs.declared.scales.RowScale.{RowScale}
 use Rattle.int_model.specs.declared.objective.ValueTerms.{ValueTerms}
-use Rattle.int_model.specs.WholeRows.{reach, span}
+use Rattle.whole_rows.specs.WholeRows.{reach, span, IsHeavy}
+use Rattle.whole_rows.specs.WeightLaws.{factor_le_term, span-term_le}
 use Rattle.int_model.specs.Scale.{common_divisor, common_denominator, common_numerator, over_or_one, scale, scaled}
 use Rattle.int_model.specs.IntegerRows.{coefficients_of, integer_rows, objective_of, cost, IsDistinctBelow}
 use Rattle.int_model.specs.ItemFactors.{factors_in, LeavesRangeAt}
 use Rattle.int_model.specs.ObjectiveValues.{value_factor, MakesValues}
-use Rattle.int_model.specs.Large.{IsHeavy, multiple, objective_numbers, objective_weight, IsLargeObjective}
+use Rattle.int_model.specs.Large.{multiple, objective_numbers, objective_weight, IsLargeObjective}
 use Rattle.int_model.proofs.ScaleLaws.{not_zero, cancel, scale_pos, scaled-primitive, whole_product, zero_from_dvd, common_denominator_pos}
-use Rattle.int_model.proofs.ScalingLaws.{multiple_is, heavy_from_product, scaled_at}
-use Rattle.int_model.proofs.LargeLaws.{factor_le_term, span-term_le, box_long, coefficients_long}
+use Rattle.int_model.proofs.MultipleLaws.{multiple_is, heavy_from_product, scaled_at}
+use Rattle.int_model.proofs.LargeLaws.{box_long, coefficients_long}
 use Rattle.int_model.proofs.ItemLaws.{same_denominator, same_numerator}
 use Rattle.int_model.proofs.RowLaws.{some_from_numerator, IsScaleOf, products_are_scaled}
 
@@ -77,11 +78,11 @@ span_times divisor l g (q ∷ a) (bounds ∷ box) h p d =
     sum x m z r s t e f = ap₂ ◌+◌ (ap (λ k. k * r) e) f ∙ omega arith
 
 -- the weight of the objective
-pub objective_weight_is : (model : Model) → objective_weight model ≡ nat_abs (multiple (common_denominator (objective_numbers model)) model.constant) + value_factor (common_denominator (objective_numbers model)) (common_denominator (objective_of model)) (common_numerator (objective_of model)) * span (cost model) (integer_rows model).box
+pub objective_weight_is : (model : Model) → objective_weight model ≡ nat_abs (multiple (common_denominator (objective_numbers model)) model.constant) + value_factor (common_denominator (objective_numbers model)) (common_denominator (objective_of model)) (common_numerator (objective_of model)) * span (cost model) (integer_rows model).whole.box
 objective_weight_is model =
     let a = objective_of model in
     let divisor = common_denominator (objective_numbers model) in
-    ap (λ s. nat_abs (multiple divisor model.constant) + s) (span_times divisor (common_denominator a) (common_numerator a) a (integer_rows model).box (dvd_lcm_right model.constant.den (common_denominator a)) (dvd_refl _) (dvd_refl _))
+    ap (λ s. nat_abs (multiple divisor model.constant) + s) (span_times divisor (common_denominator a) (common_numerator a) a (integer_rows model).whole.box (dvd_lcm_right model.constant.den (common_denominator a)) (dvd_refl _) (dvd_refl _))
 
 -- the factor is above 0
 value_factor_pos : (divisor l g : ℕ) → 0 < divisor → l ∣ divisor → 0 < value_factor divisor l g
@@ -143,11 +144,7 @@ span_some a box long some = positive _ (λ e. omega (arith, zero_span (scaled a)
     positive : (n : ℕ) → n ≢ 0 → 0 < n
     positive n h = omega arith
 
--- the common denominator of the objective's numbers, from that of its items
-pub divisor_is : (model : Model) → IsDistinctBelow (length model.columns) model.objective → lcm model.constant.den (common_denominator (factors_in model.objective)) ≡ common_denominator (objective_numbers model)
-divisor_is model distinct =
-    ap (lcm model.constant.den) (sym (same_denominator (length model.columns) model.objective distinct))
-
+-- the common denominator of the objective's numbers is above 0
 pub divisor_pos : (model : Model) → 0 < common_denominator (objective_numbers model)
 divisor_pos model = common_denominator_pos (objective_numbers model)
 
@@ -156,10 +153,10 @@ pub denominator_dvd_divisor : (model : Model) → common_denominator (objective_
 denominator_dvd_divisor model = dvd_lcm_right model.constant.den (common_denominator (objective_of model))
 
 -- the cost weighs no more than the objective
-span_le_weight : (model : Model) → span (cost model) (integer_rows model).box ≤ objective_weight model
+span_le_weight : (model : Model) → span (cost model) (integer_rows model).whole.box ≤ objective_weight model
 span_le_weight model =
     let some : 1 ≤ value_factor (common_denominator (objective_numbers model)) (common_denominator (objective_of model)) (common_numerator (objective_of model)) = value_factor_pos _ _ (common_numerator (objective_of model)) (divisor_pos model) (denominator_dvd_divisor model) in
-    omega (arith, objective_weight_is model, mul-le-mul_right (span (cost model) (integer_rows model).box) some)
+    omega (arith, objective_weight_is model, mul-le-mul_right (span (cost model) (integer_rows model).whole.box) some)
 
 -- the common denominator of the items is wide
 pub large_from_items : (model : Model) → IsDistinctBelow (length model.columns) model.objective → (common_denominator (factors_in model.objective) < 2 ^ 127 → ⊥) → IsLargeObjective model
@@ -174,7 +171,7 @@ large_from_divisor model wide = inr (omega (arith, wide))
 pub large_from_cost : (model : Model) → LeavesRangeAt (scale (objective_of model)) (objective_of model) → IsLargeObjective model
 large_from_cost model (k, q, h, e, leaves) =
     let a = objective_of model in
-    let box = (integer_rows model).box in
+    let box = (integer_rows model).whole.box in
     let zero_bounds : Bounds = record { low = pos 0; high = pos 0 } in
     let long : length (cost model) ≡ length box = length-map a (λ q. (scale a *ℚ q).num) ∙ coefficients_long (length model.columns) model.objective ∙ sym (box_long model) in
     let l : k < length (cost model) = omega (arith, h, length-map a (λ q. (scale a *ℚ q).num)) in
@@ -182,7 +179,7 @@ large_from_cost model (k, q, h, e, leaves) =
     inl (omega (arith, heavy, factor_le_term (get_or (cost model) k (pos 0)) (get_or box k zero_bounds), span-term_le k (cost model) box (pos 0) zero_bounds l (omega arith), span_le_weight model))
 
 -- the cost spans too much
-pub large_from_span : (model : Model) → (span (cost model) (integer_rows model).box ≤ 2 ^ 96 → ⊥) → IsLargeObjective model
+pub large_from_span : (model : Model) → (span (cost model) (integer_rows model).whole.box ≤ 2 ^ 96 → ⊥) → IsLargeObjective model
 large_from_span model heavy = inl (omega (arith, heavy, span_le_weight model))
 
 -- the constant's multiple is out of range
@@ -193,7 +190,7 @@ large_from_constant model leaves =
     inl (omega (arith, heavy))
 
 -- the sum of both is too heavy
-pub large_from_total : (model : Model) → (nat_abs (multiple (common_denominator (objective_numbers model)) model.constant) + value_factor (common_denominator (objective_numbers model)) (common_denominator (objective_of model)) (common_numerator (objective_of model)) * span (cost model) (integer_rows model).box ≤ 2 ^ 96 → ⊥) → IsLargeObjective model
+pub large_from_total : (model : Model) → (nat_abs (multiple (common_denominator (objective_numbers model)) model.constant) + value_factor (common_denominator (objective_numbers model)) (common_denominator (objective_of model)) (common_numerator (objective_of model)) * span (cost model) (integer_rows model).whole.box ≤ 2 ^ 96 → ⊥) → IsLargeObjective model
 large_from_total model heavy = inl (omega (arith, heavy, objective_weight_is model))
 
 -- the factor is too large
@@ -204,7 +201,7 @@ large_from_value_factor model large = by_numerator (common_numerator (objective_
     by_numerator zero e wide = large_from_divisor model wide
     by_numerator (suc g) e wide =
         let a = objective_of model in
-        let box = (integer_rows model).box in
+        let box = (integer_rows model).whole.box in
         let m = value_factor (common_denominator (objective_numbers model)) (common_denominator a) (suc g) in
         let long : length a ≡ length box = coefficients_long (length model.columns) model.objective ∙ sym (box_long model) in
         let some : 1 ≤ span (cost model) box = span_some a box long (λ z. omega (arith, z, e)) in
@@ -212,16 +209,16 @@ large_from_value_factor model large = by_numerator (common_numerator (objective_
         inl (omega (arith, wide, total, mul-le-mul_left m some))
 
 -- none of these
-pub objective_is_small : (model : Model) → common_denominator (objective_numbers model) < 2 ^ 127 → nat_abs (multiple (common_denominator (objective_numbers model)) model.constant) + value_factor (common_denominator (objective_numbers model)) (common_denominator (objective_of model)) (common_numerator (objective_of model)) * span (cost model) (integer_rows model).box ≤ 2 ^ 96 → IsLargeObjective model → ⊥
+pub objective_is_small : (model : Model) → common_denominator (objective_numbers model) < 2 ^ 127 → nat_abs (multiple (common_denominator (objective_numbers model)) model.constant) + value_factor (common_denominator (objective_numbers model)) (common_denominator (objective_of model)) (common_numerator (objective_of model)) * span (cost model) (integer_rows model).whole.box ≤ 2 ^ 96 → IsLargeObjective model → ⊥
 objective_is_small model narrow light (inl heavy) = omega (arith, heavy, light, objective_weight_is model)
 objective_is_small model narrow light (inr wide) = omega (arith, narrow, wide)
 
 -- what was found makes the values
-pub makes_values : (model : Model) (terms : ValueTerms) → terms.divisor ≡ pos (common_denominator (objective_numbers model)) → terms.constant ≡ multiple (common_denominator (objective_numbers model)) model.constant → terms.factor ≡ pos (value_factor (common_denominator (objective_numbers model)) (common_denominator (objective_of model)) (common_numerator (objective_of model))) → common_denominator (objective_numbers model) < 2 ^ 127 → nat_abs (multiple (common_denominator (objective_numbers model)) model.constant) + value_factor (common_denominator (objective_numbers model)) (common_denominator (objective_of model)) (common_numerator (objective_of model)) * span (cost model) (integer_rows model).box ≤ 2 ^ 96 → MakesValues model terms
+pub makes_values : (model : Model) (terms : ValueTerms) → terms.divisor ≡ pos (common_denominator (objective_numbers model)) → terms.constant ≡ multiple (common_denominator (objective_numbers model)) model.constant → terms.factor ≡ pos (value_factor (common_denominator (objective_numbers model)) (common_denominator (objective_of model)) (common_numerator (objective_of model))) → common_denominator (objective_numbers model) < 2 ^ 127 → nat_abs (multiple (common_denominator (objective_numbers model)) model.constant) + value_factor (common_denominator (objective_numbers model)) (common_denominator (objective_of model)) (common_numerator (objective_of model)) * span (cost model) (integer_rows model).whole.box ≤ 2 ^ 96 → MakesValues model terms
 makes_values model terms is_divisor is_constant is_factor narrow light =
     let divisor = common_denominator (objective_numbers model) in
     let m = value_factor divisor (common_denominator (objective_of model)) (common_numerator (objective_of model)) in
-    let total : nat_abs terms.constant + nat_abs terms.factor * span (cost model) (integer_rows model).box ≡ nat_abs (multiple divisor model.constant) + m * span (cost model) (integer_rows model).box = ap₂ (λ c f. nat_abs c + nat_abs f * span (cost model) (integer_rows model).box) is_constant is_factor in
+    let total : nat_abs terms.constant + nat_abs terms.factor * span (cost model) (integer_rows model).whole.box ≡ nat_abs (multiple divisor model.constant) + m * span (cost model) (integer_rows model).whole.box = ap₂ (λ c f. nat_abs c + nat_abs f * span (cost model) (integer_rows model).whole.box) is_constant is_factor in
     record {
       step = ap₂ ratio is_factor is_divisor ∙ step_is divisor (objective_of model) (divisor_pos model) (denominator_dvd_divisor model);
       constant = ap₂ ratio is_constant is_divisor ∙ constant_is divisor model.constant (divisor_pos model) (dvd_lcm_left model.constant.den (common_denominator (objective_of model)));
@@ -276,15 +273,15 @@ factor_not_found model divisor denominator numerator distinct is_divisor is_deno
     large_from_value_factor model (λ narrow. wide (omega (arith, narrow, factor_from model divisor denominator numerator distinct is_divisor is_denominator is_numerator)))
 
 -- the costs and their span
-pub costs_long : (model : Model) (costs : List ℤ) (columns : List Bounds) → costs ≡ cost model → columns ≡ (integer_rows model).box → length costs ≡ length columns
+pub costs_long : (model : Model) (costs : List ℤ) (columns : List Bounds) → costs ≡ cost model → columns ≡ (integer_rows model).whole.box → length costs ≡ length columns
 costs_long model costs columns is_cost is_box =
     let a = objective_of model in
     ap length is_cost ∙ length-map a (λ q. (scale a *ℚ q).num) ∙ coefficients_long (length model.columns) model.objective ∙ sym (ap length is_box ∙ box_long model)
 
-pub span_from : (model : Model) (costs : List ℤ) (columns : List Bounds) → costs ≡ cost model → columns ≡ (integer_rows model).box → span costs columns ≡ span (cost model) (integer_rows model).box
+pub span_from : (model : Model) (costs : List ℤ) (columns : List Bounds) → costs ≡ cost model → columns ≡ (integer_rows model).whole.box → span costs columns ≡ span (cost model) (integer_rows model).whole.box
 span_from model costs columns is_cost is_box = ap₂ span is_cost is_box
 
-pub span_not_found : (model : Model) (costs : List ℤ) (columns : List Bounds) → costs ≡ cost model → columns ≡ (integer_rows model).box → (span costs columns ≤ 2 ^ 96 → ⊥) → IsLargeObjective model
+pub span_not_found : (model : Model) (costs : List ℤ) (columns : List Bounds) → costs ≡ cost model → columns ≡ (integer_rows model).whole.box → (span costs columns ≤ 2 ^ 96 → ⊥) → IsLargeObjective model
 span_not_found model costs columns is_cost is_box heavy =
     large_from_span model (λ light. heavy (omega (arith, light, span_from model costs columns is_cost is_box)))
 
@@ -293,18 +290,18 @@ pub first_not_found : (model : Model) (num : ℤ) → num ≡ multiple (common_d
 first_not_found model num is_num heavy = large_from_total model (λ light. heavy (omega (arith, light, ap nat_abs is_num)))
 
 -- the whole sum
-total_from : (model : Model) (num factor : ℤ) (sum spanned : ℕ) → num ≡ multiple (common_denominator (objective_numbers model)) model.constant → factor ≡ pos (value_factor (common_denominator (objective_numbers model)) (common_denominator (objective_of model)) (common_numerator (objective_of model))) → sum ≡ 0 + nat_abs num * 1 → spanned ≡ span (cost model) (integer_rows model).box → sum + nat_abs factor * spanned ≡ nat_abs (multiple (common_denominator (objective_numbers model)) model.constant) + value_factor (common_denominator (objective_numbers model)) (common_denominator (objective_of model)) (common_numerator (objective_of model)) * span (cost model) (integer_rows model).box
+total_from : (model : Model) (num factor : ℤ) (sum spanned : ℕ) → num ≡ multiple (common_denominator (objective_numbers model)) model.constant → factor ≡ pos (value_factor (common_denominator (objective_numbers model)) (common_denominator (objective_of model)) (common_numerator (objective_of model))) → sum ≡ 0 + nat_abs num * 1 → spanned ≡ span (cost model) (integer_rows model).whole.box → sum + nat_abs factor * spanned ≡ nat_abs (multiple (common_denominator (objective_numbers model)) model.constant) + value_factor (common_denominator (objective_numbers model)) (common_denominator (objective_of model)) (common_numerator (objective_of model)) * span (cost model) (integer_rows model).whole.box
 total_from model num factor sum spanned is_num is_factor is_sum is_span =
     ap₂ ◌+◌ (plain sum (nat_abs num) is_sum ∙ ap nat_abs is_num) (ap₂ ◌*◌ (ap nat_abs is_factor) is_span)
   where
     plain : (s n : ℕ) → s ≡ 0 + n * 1 → s ≡ n
     plain s n e = omega (arith, e)
 
-pub total_found : (model : Model) (num factor : ℤ) (sum spanned : ℕ) → num ≡ multiple (common_denominator (objective_numbers model)) model.constant → factor ≡ pos (value_factor (common_denominator (objective_numbers model)) (common_denominator (objective_of model)) (common_numerator (objective_of model))) → sum ≡ 0 + nat_abs num * 1 → spanned ≡ span (cost model) (integer_rows model).box → sum + nat_abs factor * spanned ≤ 2 ^ 96 → nat_abs (multiple (common_denominator (objective_numbers model)) model.constant) + value_factor (common_denominator (objective_numbers model)) (common_denominator (objective_of model)) (common_numerator (objective_of model)) * span (cost model) (integer_rows model).box ≤ 2 ^ 96
+pub total_found : (model : Model) (num factor : ℤ) (sum spanned : ℕ) → num ≡ multiple (common_denominator (objective_numbers model)) model.constant → factor ≡ pos (value_factor (common_denominator (objective_numbers model)) (common_denominator (objective_of model)) (common_numerator (objective_of model))) → sum ≡ 0 + nat_abs num * 1 → spanned ≡ span (cost model) (integer_rows model).whole.box → sum + nat_abs factor * spanned ≤ 2 ^ 96 → nat_abs (multiple (common_denominator (objective_numbers model)) model.constant) + value_factor (common_denominator (objective_numbers model)) (common_denominator (objective_of model)) (common_numerator (objective_of model)) * span (cost model) (integer_rows model).whole.box ≤ 2 ^ 96
 total_found model num factor sum spanned is_num is_factor is_sum is_span light =
     subst (λ n. n ≤ 2 ^ 96) (total_from model num factor sum spanned is_num is_factor is_sum is_span) light
 
-pub total_not_found : (model : Model) (num factor : ℤ) (sum spanned : ℕ) → num ≡ multiple (common_denominator (objective_numbers model)) model.constant → factor ≡ pos (value_factor (common_denominator (objective_numbers model)) (common_denominator (objective_of model)) (common_numerator (objective_of model))) → sum ≡ 0 + nat_abs num * 1 → spanned ≡ span (cost model) (integer_rows model).box → (sum + nat_abs factor * spanned ≤ 2 ^ 96 → ⊥) → IsLargeObjective model
+pub total_not_found : (model : Model) (num factor : ℤ) (sum spanned : ℕ) → num ≡ multiple (common_denominator (objective_numbers model)) model.constant → factor ≡ pos (value_factor (common_denominator (objective_numbers model)) (common_denominator (objective_of model)) (common_numerator (objective_of model))) → sum ≡ 0 + nat_abs num * 1 → spanned ≡ span (cost model) (integer_rows model).whole.box → (sum + nat_abs factor * spanned ≤ 2 ^ 96 → ⊥) → IsLargeObjective model
 total_not_found model num factor sum spanned is_num is_factor is_sum is_span heavy =
     large_from_total model (λ light. heavy (subst (λ n. n ≤ 2 ^ 96) (sym (total_from model num factor sum spanned is_num is_factor is_sum is_span)) light))
 

@@ -16,9 +16,9 @@ use Rattle.int_model.specs.declared.model.Column.{Column}
 use Rattle.int_model.specs.declared.model.Row.{Row}
 use Rattle.int_model.specs.declared.model.Model.{Model}
 use Rattle.int_model.specs.Points.{LiesBetween, value_of, IsPoint, value_at, IsBest}
-use Rattle.int_model.specs.IntegerRows.{coefficient_of, coefficients_of, rounded_bounds, fraction_row, integer_rows, objective_of}
+use Rattle.int_model.specs.IntegerRows.{value_in, coefficient_of, coefficients_of, rounded_bounds, fraction_row, integer_rows, objective_of}
 use Rattle.int_model.specs.Scale.{scale, sum_at, integer_row}
-use Rattle.int_model.specs.WholeRows.{WholeRow, LiesIn, MeetsRow, Meets, HasLeastCutValue, cut_value, value_in}
+use Rattle.whole_rows.specs.WholeRows.{WholeRow, LiesIn, MeetsRow, Meets, HasLeastCutValue, cut_value}
 use Rattle.int_model.proofs.ScaleLaws.{scale_pos, not_zero, scaled_sum, points_kept, scaled_order}
 
 -- ---- the items of a row, and its coefficients
@@ -120,7 +120,7 @@ pub point_long : (model : Model) (x : List ℤ) → IsPoint model x → length x
 point_long model x point = AllZip-long _ _ _ point.in_bounds
 
 -- a list is a point of the model exactly where it meets the integer rows
-pub points_meet_rows : (model : Model) (x : List ℤ) → IsPoint model x ↔ Meets (integer_rows model) x
+pub points_meet_rows : (model : Model) (x : List ℤ) → IsPoint model x ↔ Meets (integer_rows model).whole x
 points_meet_rows model x = (
   (λ point. record { in_box = bounds-out model.columns x point.in_bounds; in_rows = rows-out (length model.columns) model.rows x (point_long model x point) point.in_sides }),
   (λ meets.
@@ -136,7 +136,7 @@ add_first k p q = (λ h. order.add_le k k p q (order.le_refl k) h, λ h. subst�
     back k p = solve rationals (k ∷ p ∷ []) (search reads depth 30) (search reads depth 30) refl
 
 -- for two points the order of the values is the order of the cut values
-pub values_ordered : (model : Model) (x y : List ℤ) → IsPoint model x → IsPoint model y → (value_at model x ≤ℚ value_at model y) ↔ (cut_value (integer_rows model) x ≤ℤ cut_value (integer_rows model) y)
+pub values_ordered : (model : Model) (x y : List ℤ) → IsPoint model x → IsPoint model y → (value_at model x ≤ℚ value_at model y) ↔ (cut_value (integer_rows model).whole x ≤ℤ cut_value (integer_rows model).whole y)
 values_ordered model x y point other =
     let n = length model.columns in
     let here = value_of-coefficients model.objective n x (point_long model x point) in
@@ -158,7 +158,7 @@ values_kept model x long =
         sym (ring.mul_assoc (inv_ℚ k) k t) ∙ ap (λ p. p *ℚ t) (ring.mul_comm (inv_ℚ k) k ∙ e) ∙ Laws.one_mul rationals t
 
 -- a best point is one of least cut value
-pub best_has_least : (model : Model) (x : List ℤ) → IsBest model x ↔ HasLeastCutValue (integer_rows model) x
+pub best_has_least : (model : Model) (x : List ℤ) → IsBest model x ↔ HasLeastCutValue (integer_rows model).whole x
 best_has_least model x = (
   (λ best. record {
     meets = (points_meet_rows model x).0 best.point;

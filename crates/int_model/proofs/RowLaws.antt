@@ -1,5 +1,5 @@
 -- How one row is found large, or not.
-use Rattle.std.proofs.Common.{◌≡◌, ◌≢◌, ◌⊎◌, ⊎_elim, inl, inr, Bool, true, false, eqb, ℕ, zero, suc, ◌+◌, ◌-◌, ◌<◌, ◌≤◌, ◌^◌, List, [], ◌∷◌, ◌++◌, length, map, take, drop, get_or, ℤ, pos, negsuc, nat_abs, refl, sym, ap, ap₂, subst, ◌∙◌, arith}
+use Rattle.std.proofs.Common.{◌≡◌, ◌≢◌, ◌⊎◌, ⊎_elim, inl, inr, Bool, true, false, eqb, ℕ, zero, suc, ◌<◌, ◌≤◌, ◌^◌, List, [], ◌∷◌, length, map, get_or, ℤ, pos, negsuc, nat_abs, refl, sym, ap, subst, ◌∙◌, arith}
 use Rattle.std.specs.Prelude.{Option, IsTrue}
 use Rattle.std.specs.Bool.{IsFalse}
 use Rattle.std.specs.List.{All, Any}
@@ -7,24 +7,26 @@ use Rattle.std.specs.Option.{option_map}
 use Rattle.std.specs.Int.{◌∣◌}
 use Rattle.std.proofs.Math.Nat.{one-dvd, eq-one_of_dvd-one}
 use Rattle.std.proofs.lemmas.Bool.{eqb-true, ne_eqb}
-use Rattle.std.proofs.lemmas.List.{drop_at, take_all, length-append, length-map}
+use Rattle.std.proofs.lemmas.List.{length-map}
 use Rattle.std.proofs.lemmas.List.Elements.{All-nil, All-cons, All-get_or}
 use Rattle.exact_math.specs.Rational.{ℚ, whole, ◌*ℚ◌, floor, ceil}
 use Rattle.exact_math.specs.IntegerRing.{linear}
 use Rattle.exact_math.specs.RationalLaws.{zero_from_num, num_zero}
 use Rattle.exact_math.specs.RationalFloor.{whole-is}
-use Rattle.int_model.specs.declared.bounds.Bounds.{Bounds}
+use Rattle.whole_rows.specs.declared.bounds.Bounds.{Bounds}
 use Rattle.int_model.specs.declared.model.Item.{Item}
 use Rattle.int_model.specs.declared.scales.RowScale.{RowScale}
-use Rattle.int_model.specs.declared.flat_row.Sides.{Sides}
-use Rattle.int_model.specs.FlatRows.{sides_of}
 use Rattle.int_model.specs.Scale.{common_denominator, common_numerator, over_or_one, scale, scaled, FractionRow, integer_row}
-use Rattle.int_model.specs.WholeRows.{span, size_of_side, weight}
+use Rattle.whole_rows.specs.WholeRows.{weight}
+use Rattle.whole_rows.specs.declared.stops.RowStop.{RowStop}
+use Rattle.whole_rows.specs.declared.stops.RowStop.TheVariants as row_stops
+use Rattle.int_model.specs.declared.part.PartStop.TheVariants as part_stops
+use Rattle.int_model.specs.Stops.{part_stop_of}
 use Rattle.int_model.specs.IntegerRows.{coefficients_of, IsDistinctBelow}
 use Rattle.int_model.specs.ItemFactors.{factors_in, row_scale, LeavesRangeAt}
 use Rattle.int_model.specs.Large.{HasWideDenominator, LeavesRange, IsLargeRow}
 use Rattle.int_model.proofs.ScaleLaws.{zero_from_dvd, no_numerator, common_numerator_dvd}
-use Rattle.int_model.proofs.ScalingLaws.{scaled_at, heavy_from_product}
+use Rattle.int_model.proofs.MultipleLaws.{scaled_at, heavy_from_product}
 use Rattle.int_model.proofs.LargeLaws.{large_from_factor, coefficients_long}
 use Rattle.int_model.proofs.ItemLaws.{common_denominator-dvd, same_denominator, same_numerator, same_scale}
 
@@ -117,6 +119,11 @@ pub large_from_high : (box : List Bounds) (row : FractionRow) (s : RowScale) →
 large_from_high box row s is found =
     inr (some_coefficient row.factors s is found.0, inr (inr (subst (λ times. LeavesRange times row.high) is.times found.1)))
 
+-- only a heavy row is answered as large
+pub heavy_from_large : (stop : RowStop) → part_stop_of stop ≡ part_stops.Large → stop ≡ row_stops.Heavy
+heavy_from_large row_stops.Heavy is = refl
+heavy_from_large row_stops.NoMemory is = cc
+
 -- none of these
 pub row_is_small : (box : List Bounds) (row : FractionRow) (s : RowScale) → IsScaleOf row.factors s → weight box (integer_row row) ≤ 2 ^ 96 → (IsFalse s.zeros → LeavesRange s.times row.low → ⊥) → (IsFalse s.zeros → LeavesRange s.times row.high → ⊥) → IsLargeRow box row → ⊥
 row_is_small box row s is light low high (inl heavy) = omega (arith, heavy, light)
@@ -132,30 +139,10 @@ row_is_small box row s is light low high (inr (some, inr (inr leaves))) =
 pub products_are_scaled : (a : List ℚ) (s : RowScale) → IsScaleOf a s → map (λ q. (s.times *ℚ q).num) a ≡ scaled a
 products_are_scaled a s is = ap (λ times. map (λ q. (times *ℚ q).num) a) is.times
 
--- what stands from the former end on
-pub from_end : (numbers old more : List ℤ) (start : ℕ) → numbers ≡ old ++ more → start ≡ length old → take (length numbers - start) (drop start numbers) ≡ more
-from_end numbers old more start is at =
-    let long : length numbers - start ≡ length more = omega (arith, ap length is, length-append old more, at) in
-    ap₂ (λ k l. take k (drop start l)) long is ∙ ap (λ k. take (length more) (drop k (old ++ more))) at ∙ ap (take (length more)) (drop_at old more (length old) refl) ∙ take_all (length more) more (omega arith)
-
--- the weight of what was put, with the sides
-pub weight_is : (box : List Bounds) (row : FractionRow) (s : RowScale) (factors : List ℤ) (low high : Option ℤ) → IsScaleOf row.factors s → factors ≡ scaled row.factors → low ≡ option_map (λ l. ceil (s.times *ℚ l)) row.low → high ≡ option_map (λ h. floor (s.times *ℚ h)) row.high → span factors box + size_of_side low + size_of_side high ≡ weight box (integer_row row)
-weight_is box row s factors low high is is_factors is_low is_high =
+-- the row that was put is the integer row
+pub integer_row_is : (row : FractionRow) (s : RowScale) (factors : List ℤ) (low high : Option ℤ) → IsScaleOf row.factors s → factors ≡ scaled row.factors → low ≡ option_map (λ l. ceil (s.times *ℚ l)) row.low → high ≡ option_map (λ h. floor (s.times *ℚ h)) row.high → record { factors = factors; low = low; high = high } ≡ integer_row row
+integer_row_is row s factors low high is is_factors is_low is_high =
     rw (is_factors, is_low, is_high, is.times) refl
-
--- and the sides with it
-pub sides_are : (box : List Bounds) (row : FractionRow) (s : RowScale) (factors : List ℤ) (low high : Option ℤ) (total : ℕ) → IsScaleOf row.factors s → factors ≡ scaled row.factors → low ≡ option_map (λ l. ceil (s.times *ℚ l)) row.low → high ≡ option_map (λ h. floor (s.times *ℚ h)) row.high → total ≡ span factors box + size_of_side low + size_of_side high → record { low = low; high = high; weight = total } ≡ sides_of box row
-sides_are box row s factors low high total is is_factors is_low is_high is_total =
-    let made : Option ℤ → Option ℤ → ℕ → Sides = λ low high weight. record { low = low; high = high; weight = weight } in
-    let first : low ≡ option_map (λ l. ceil (scale row.factors *ℚ l)) row.low = is_low ∙ ap (λ times. option_map (λ l. ceil (times *ℚ l)) row.low) is.times in
-    let second : high ≡ option_map (λ h. floor (scale row.factors *ℚ h)) row.high = is_high ∙ ap (λ times. option_map (λ h. floor (times *ℚ h)) row.high) is.times in
-    let third : total ≡ weight box (integer_row row) = is_total ∙ weight_is box row s factors low high is is_factors is_low is_high in
-    ap (λ l. made l high total) first ∙ ap (λ h. made (option_map (λ l. ceil (scale row.factors *ℚ l)) row.low) h total) second ∙ ap (made (option_map (λ l. ceil (scale row.factors *ℚ l)) row.low) (option_map (λ h. floor (scale row.factors *ℚ h)) row.high)) third
 
 pub scaled_long : (n : ℕ) (items : List Item) → length (scaled (coefficients_of n items)) ≡ n
 scaled_long n items = length-map (coefficients_of n items) (λ q. (scale (coefficients_of n items) *ℚ q).num) ∙ coefficients_long n items
-
--- what was put weighs too much
-pub large_from_weight : (box : List Bounds) (row : FractionRow) (s : RowScale) (factors : List ℤ) (low high : Option ℤ) → IsScaleOf row.factors s → factors ≡ scaled row.factors → low ≡ option_map (λ l. ceil (s.times *ℚ l)) row.low → high ≡ option_map (λ h. floor (s.times *ℚ h)) row.high → (span factors box + size_of_side low + size_of_side high ≤ 2 ^ 96 → ⊥) → IsLargeRow box row
-large_from_weight box row s factors low high is is_factors is_low is_high heavy =
-    inl (omega (arith, heavy, weight_is box row s factors low high is is_factors is_low is_high))

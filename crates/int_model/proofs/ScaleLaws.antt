@@ -23,7 +23,7 @@ use Rattle.exact_math.specs.RingSolver.{ring as solve, reads}
 use Rattle.exact_vectors.specs.Vectors.{dot}
 use Rattle.exact_vectors.specs.DotLaws.{dot-scale_left}
 use Rattle.int_model.specs.Scale.{common_divisor, common_denominator, common_numerator, over_or_one, scale, scaled, FractionRow, sum_at, MeetsFractionRow, integer_row}
-use Rattle.int_model.specs.WholeRows.{MeetsRow}
+use Rattle.whole_rows.specs.WholeRows.{MeetsRow}
 
 -- ---- sums
 

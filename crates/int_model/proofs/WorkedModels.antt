@@ -7,13 +7,13 @@ use Rattle.exact_math.specs.Rational.{whole, frac, ratio, inv_ℚ, ◌+ℚ◌, �
 use Rattle.exact_math.specs.IntegerRing.{linear}
 use Rattle.exact_math.specs.RationalLaws.{num_zero}
 use Rattle.frac128.specs.Range.{InRange}
-use Rattle.int_model.specs.declared.bounds.Bounds.{Bounds}
+use Rattle.whole_rows.specs.declared.bounds.Bounds.{Bounds}
 use Rattle.int_model.specs.declared.model.Row.{Row}
 use Rattle.int_model.specs.declared.model.Model.{Model}
 use Rattle.int_model.specs.Points.{value_at}
 use Rattle.int_model.specs.IntegerRows.{fraction_row, integer_rows, cost}
 use Rattle.int_model.specs.Scale.{common_denominator, scale, FractionRow, integer_row}
-use Rattle.int_model.specs.WholeRows.{weight, cut_value}
+use Rattle.whole_rows.specs.WholeRows.{weight, cut_value}
 use Rattle.int_model.specs.Large.{IsLargeRow, objective_weight}
 
 -- 2x + 4y = 7
@@ -41,9 +41,11 @@ half_above = record {
 
 -- is x >= 3, x between 0 and 3
 rows_of_half_above : integer_rows half_above ≡ record {
-  box = record { low = pos 0; high = pos 3 } ∷ [];
-  rows = record { factors = pos 1 ∷ []; low = Some (pos 3); high = None } ∷ [];
-  cost = pos 0 ∷ [];
+  whole = record {
+    box = record { low = pos 0; high = pos 3 } ∷ [];
+    rows = record { factors = pos 1 ∷ []; low = Some (pos 3); high = None } ∷ [];
+    cost = pos 0 ∷ [];
+  };
   step = whole (pos 1);
   constant = whole (pos 0);
 }
@@ -69,7 +71,7 @@ value_of_priced : value_at priced (pos 1 ∷ pos 2 ∷ []) ≡ frac (pos 13) 4
 unfolding priced frac whole ◌+ℚ◌ ◌*ℚ◌ lcm gcd gcd_within
 value_of_priced = refl
 
-cut_value_of_priced : cut_value (integer_rows priced) (pos 1 ∷ pos 2 ∷ []) ≡ pos 7
+cut_value_of_priced : cut_value (integer_rows priced).whole (pos 1 ∷ pos 2 ∷ []) ≡ pos 7
 unfolding priced frac whole ◌+ℚ◌ ◌*ℚ◌ lcm gcd gcd_within
 cut_value_of_priced = refl
 

@@ -1,14 +1,24 @@
--- The integer rows of an integer program whose numbers are fractions.
+-- The integer rows of an integer program whose numbers are fractions, and the values of their points.
 use Rattle.std.specs.Prelude.{ℕ, ◌<◌, ℤ, pos, List, [], ◌∷◌, length, map, All, AllPairs, if◌then◌else◌, ◌==◌}
 use Rattle.std.specs.List.{range_with_len}
-use Rattle.exact_math.specs.Rational.{ℚ, whole, ◌+ℚ◌, inv_ℚ, floor, ceil}
-use Rattle.int_model.specs.declared.bounds.Bounds.{Bounds}
-use Rattle.int_model.specs.WholeRows.{WholeRows}
+use Rattle.exact_math.specs.Rational.{ℚ, whole, ◌+ℚ◌, ◌*ℚ◌, inv_ℚ, floor, ceil}
+use Rattle.whole_rows.specs.declared.bounds.Bounds.{Bounds}
+use Rattle.whole_rows.specs.WholeRows.{WholeRows, cut_value}
 use Rattle.int_model.specs.Scale.{FractionRow, integer_row, scale, scaled}
 use Rattle.int_model.specs.declared.model.Item.{Item}
 use Rattle.int_model.specs.declared.model.Column.{Column}
 use Rattle.int_model.specs.declared.model.Row.{Row}
 use Rattle.int_model.specs.declared.model.Model.{Model}
+
+-- the whole rows, and what makes a point's value of its cut value: the constant, and the step times the cut value
+pub record IntegerRows : Type 0 where
+  pub whole : WholeRows
+  pub step : ℚ
+  pub constant : ℚ
+
+-- the value of the objective
+abbrev pub value_in : IntegerRows → List ℤ → ℚ
+value_in rows x = rows.constant +ℚ rows.step *ℚ whole (cut_value rows.whole x)
 
 -- the coefficient of column j: the sum of the factors of the items in that column
 abbrev pub coefficient_of : List Item → ℕ → ℚ
@@ -36,11 +46,13 @@ abbrev pub cost : Model → List ℤ
 cost model = scaled (objective_of model)
 
 -- the rounded bounds, the integer row of each row, and the objective over its scale
-abbrev pub integer_rows : Model → WholeRows
+abbrev pub integer_rows : Model → IntegerRows
 integer_rows model = record {
-  box = map rounded_bounds model.columns;
-  rows = map (λ row. integer_row (fraction_row (length model.columns) row)) model.rows;
-  cost = cost model;
+  whole = record {
+    box = map rounded_bounds model.columns;
+    rows = map (λ row. integer_row (fraction_row (length model.columns) row)) model.rows;
+    cost = cost model;
+  };
   step = inv_ℚ (scale (objective_of model));
   constant = model.constant;
 }

@@ -1,21 +1,17 @@
 -- How much the parts of a model weigh, and the first part that is too large to be worked with in 128 bits.
-use Rattle.std.specs.Prelude.{◌≡◌, ◌≢◌, ⊤, ◌⊎◌, ℕ, ◌+◌, ◌^◌, ◌<◌, ◌≤◌, ℤ, pos, List, ◌∷◌, length, map, Option, Some, None, nat_abs}
+use Rattle.std.specs.Prelude.{◌≢◌, ⊤, ◌⊎◌, ℕ, ◌+◌, ◌^◌, ◌<◌, ◌≤◌, ℤ, pos, List, ◌∷◌, length, map, Option, Some, None, nat_abs}
 use Rattle.std.specs.List.{Any, HoldsAt}
 use Rattle.exact_math.specs.Rational.{ℚ, whole, ◌*ℚ◌}
 use Rattle.frac128.specs.Range.{ProductInRange}
-use Rattle.int_model.specs.declared.bounds.Bounds.{Bounds}
+use Rattle.whole_rows.specs.declared.bounds.Bounds.{Bounds}
 use Rattle.int_model.specs.declared.part.Part.{Part}
 use Rattle.int_model.specs.declared.part.Part.TheVariants as parts
-use Rattle.int_model.specs.WholeRows.{reach, span, weight}
+use Rattle.whole_rows.specs.WholeRows.{reach, span, weight, IsHeavy}
 use Rattle.int_model.specs.Scale.{common_denominator, scale, FractionRow, integer_row}
 use Rattle.int_model.specs.declared.model.Column.{Column}
 use Rattle.int_model.specs.declared.model.Row.{Row}
 use Rattle.int_model.specs.declared.model.Model.{Model}
 use Rattle.int_model.specs.IntegerRows.{rounded_bounds, fraction_row, integer_rows, objective_of}
-
--- a weight above 2 to the power 96
-abbrev pub IsHeavy : ℕ → Type 0
-IsHeavy weight = 2 ^ 96 < weight
 
 -- numbers whose common denominator is above 2^127 - 1
 abbrev pub HasWideDenominator : List ℚ → Type 0
@@ -51,7 +47,7 @@ objective_numbers model = model.constant ∷ objective_of model
 abbrev pub objective_weight : Model → ℕ
 objective_weight model =
     let m = common_denominator (objective_numbers model) in
-    nat_abs (multiple m model.constant) + span (map (multiple m) (objective_of model)) (integer_rows model).box
+    nat_abs (multiple m model.constant) + span (map (multiple m) (objective_of model)) (integer_rows model).whole.box
 
 -- the objective is heavy, or its numbers have a wide denominator
 abbrev pub IsLargeObjective : Model → Type 0
@@ -59,7 +55,7 @@ IsLargeObjective model = IsHeavy (objective_weight model) ⊎ HasWideDenominator
 
 -- the row over the columns of the model
 abbrev pub IsLargeRowOf : Model → Row → Type 0
-IsLargeRowOf model row = IsLargeRow (integer_rows model).box (fraction_row (length model.columns) row)
+IsLargeRowOf model row = IsLargeRow (integer_rows model).whole.box (fraction_row (length model.columns) row)
 
 -- the part is one of the model's, and is large
 abbrev pub IsLargePart : Model → Part → Type 0
@@ -81,14 +77,6 @@ ComesBefore parts.Objective part = ⊥
 pub record IsFirstLarge (model : Model) (part : Part) : Type 0 where
   pub large : IsLargePart model part
   pub first : (other : Part) → ComesBefore other part → IsLargePart model other → ⊥
-
--- the part is a large column, before which no column is large
-pub record IsFirstLargeColumn (columns : List Column) (part : Part) : Type 0 where
-  pub number : ℕ
-  pub named : part ≡ parts.Column number
-  pub within : number < length columns
-  pub large : HoldsAt IsLargeColumn columns number
-  pub first : (k : ℕ) → k < number → HoldsAt IsLargeColumn columns k → ⊥
 
 -- no part is large
 abbrev pub HasNoLargePart : Model → Type 0

@@ -1,8 +1,9 @@
 pub mod Points
-pub mod WholeRows
-pub mod IntegerRows
-pub mod FlatRows
 pub mod Scale
-pub mod Large
+pub mod IntegerRows
+pub mod DistinctLaws
 pub mod ItemFactors
+pub mod Large
+pub mod FirstLargeLaws
 pub mod ObjectiveValues
+pub mod Stops

@@ -5,7 +5,7 @@ use Rattle.exact_math.specs.Gcd.{gcd, lcm}
 use Rattle.exact_math.specs.Rational.{ℚ, whole, frac, ◌*ℚ◌, ◌≤ℚ◌, floor, ceil}
 use Rattle.exact_math.specs.RationalRing.{rationals}
 use Rattle.exact_vectors.specs.Vectors.{dot}
-use Rattle.int_model.specs.WholeRows.{WholeRow}
+use Rattle.whole_rows.specs.WholeRows.{WholeRow}
 
 -- the greatest common divisor of whole numbers: of their sizes, and 0 where all are 0
 abbrev pub common_divisor : List ℤ → ℕ

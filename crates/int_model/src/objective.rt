@@ -1,20 +1,17 @@
 //! The objective of integer rows: whole costs, and what makes a value of them.
 ghost use Rattle.std.specs.Prelude.{◌≡◌, ◌^◌, ◌<◌, length, pos, ◌<ℤ◌, ◌≤ℤ◌, nat_abs, OnOk, IfOk, IsErrOf, SomeIff, IfSome, OnSome, IfNone};
-ghost use Rattle.int_model.specs.declared.part.Part.TheVariants as parts;
-ghost use Rattle.int_model.specs.declared.part.Part.{Part};
-ghost use Rattle.int_model.specs.declared.part.RowsStop.TheVariants as stops;
+ghost use Rattle.whole_rows.specs.WholeRows.{with_cost};
+ghost use Rattle.int_model.specs.declared.part.PartStop.TheVariants as part_stops;
 ghost use Rattle.int_model.specs.IntegerRows.{integer_rows, cost as cost_of, IsDistinctBelow};
 ghost use Rattle.int_model.specs.ObjectiveValues.{value_factor as value_factor_of, MakesValues};
 ghost use Rattle.int_model.specs.Large.{IsLargeObjective};
 
-use crate::bounds::Bounds;
-use crate::dense::push_products;
 use crate::model::Model;
-use crate::part::{Part, RowsStop};
+use crate::part::PartStop;
+use crate::products::push_products;
 use crate::scales::{common_denominator, common_numerator, lcm, scale_of};
-use crate::weights::{span_of, with_term};
 use frac128::Frac;
-use std::alloc::Global;
+use whole_rows::{Bounds, DenseRows, span_of, with_term};
 
 /// The value of a point is (`constant` + `factor` * its cut value) / `divisor`.
 #[derive(Clone, Copy, Debug, Drop)]
@@ -24,49 +21,37 @@ pub(crate) struct ValueTerms {
     pub(crate) divisor: i128,
 }
 
-/// A cost for each column, and what makes a value of a sum of costs.
-#[derive(Debug, Drop)]
-pub(crate) struct Objective {
-    pub(crate) cost: Vec<i128>,
-    pub(crate) terms: ValueTerms,
-}
-
-/// The objective of a model over the box `columns`.
-pub(crate) fn objective_in(
-    alloc: Global,
-    columns: &[Bounds],
+/// Puts the costs of a model's objective, and gives what makes a value of a sum of costs. The costs are made in
+/// `cost`, whatever stands there.
+pub(crate) fn set_objective(
+    whole: &mut DenseRows,
+    cost: &mut Vec<i128>,
     model: &Model,
-) -> Result<Objective, RowsStop>
-    requires columns { columns.now ≡ (integer_rows model.now).box }
+) -> Result<ValueTerms, PartStop>
+    requires columns { whole.old.box ≡ (integer_rows model.now).whole.box }
     requires items { IsDistinctBelow (length model.now.columns) model.now.objective }
-    ensures cost { IfOk result (λ objective. objective.cost.items ≡ cost_of model.now) }
-    ensures terms { IfOk result (λ objective. MakesValues model.now objective.terms) }
+    ensures cost { OnOk result (whole.new ≡ with_cost whole.old (cost_of model.now)) }
+    ensures terms { IfOk result (MakesValues model.now) }
     ensures small { OnOk result (IsLargeObjective model.now → ⊥) }
-    ensures part { (p : Part) → IsErrOf result (stops.Large p) → p ≡ parts.Objective }
-    ensures large { IsErrOf result (stops.Large parts.Objective) → IsLargeObjective model.now }
+    ensures large { IsErrOf result part_stops.Large → IsLargeObjective model.now }
 {
     let items = model.objective.items();
     let Some(scale) = scale_of(items) else {
-        return Err(RowsStop::Large(Part::Objective));
+        return Err(PartStop::Large);
     };
-    let mut cost = Vec::new(alloc);
-    push_products(
-        &mut cost,
-        columns.len(),
-        items,
-        &scale.times,
-        Part::Objective,
-    )?;
-    let Some(terms) = terms_of(&cost, columns, model) else {
-        return Err(RowsStop::Large(Part::Objective));
+    cost.clear();
+    push_products(cost, whole.columns(), items, &scale.times)?;
+    let Some(terms) = terms_of(cost, whole.bounds(), model) else {
+        return Err(PartStop::Large);
     };
-    Ok(Objective { cost, terms })
+    whole.set_cost(cost)?;
+    Ok(terms)
 }
 
 /// What makes a value of a sum of costs; none where the objective is large.
 fn terms_of(cost: &[i128], columns: &[Bounds], model: &Model) -> Option<ValueTerms>
     requires cost { cost.now ≡ cost_of model.now }
-    requires columns { columns.now ≡ (integer_rows model.now).box }
+    requires columns { columns.now ≡ (integer_rows model.now).whole.box }
     requires items { IsDistinctBelow (length model.now.columns) model.now.objective }
     ensures terms { IfSome result (MakesValues model.now) }
     ensures small { OnSome result (IsLargeObjective model.now → ⊥) }

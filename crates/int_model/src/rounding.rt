@@ -4,7 +4,7 @@ ghost use Rattle.std.specs.List.{Any};
 ghost use Rattle.exact_math.specs.Ring.{integers};
 ghost use Rattle.exact_math.specs.Rational.{ℚ, whole, ◌*ℚ◌, ◌≤ℚ◌, ◌<ℚ◌};
 ghost use Rattle.exact_vectors.specs.Vectors.{dot};
-ghost use Rattle.int_model.specs.WholeRows.{MeetsRow};
+ghost use Rattle.whole_rows.specs.WholeRows.{MeetsRow};
 ghost use Rattle.int_model.specs.Scale.{common_divisor, FractionRow, MeetsFractionRow, integer_row, scale, scaled, sum_at};
 
 /// A row times its scale, with its sides rounded, has whole coefficients without a common divisor and the same whole points.

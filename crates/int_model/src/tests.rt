@@ -442,20 +442,3 @@ fn the_first_large_part_is_named(rt: HostRuntime) -> Result<(), Fail> {
     }
     Ok(())
 }
-
-#[test]
-fn a_stop_tells_the_part(rt: HostRuntime) -> Result<(), Fail> {
-    for (stop, text) in [
-        (RowsStop::Large(Part::Column(0)), "column 0 is too large"),
-        (RowsStop::Large(Part::Row(12)), "row 12 is too large"),
-        (
-            RowsStop::Large(Part::Objective),
-            "the objective is too large",
-        ),
-        (RowsStop::NoMemory, "out of memory"),
-    ] {
-        let told = format!(in rt.alloc(); "{stop}")?;
-        assert_eq!(rt; told.as_str(), text);
-    }
-    Ok(())
-}

@@ -5,8 +5,8 @@ use Rattle.mps_fields.specs.declared.numbers.NumberFault.{NumberFault}
 use Rattle.mps_fields.specs.declared.numbers.NumberFault.TheVariants.{NotNumber, WideNumber}
 use Rattle.mps_fields.specs.Decimal.{Decimal, IsNumber, MeansNumber, IsWideNumber, fits, fits_product, scaled, means_number, mantissa}
 use Rattle.mps_fields.specs.Reading.{decimal_of, value_of, number_of}
-use Rattle.mps_fields.specs.Parts.{ArePartsOf, parts_mantissa, parts_power}
-use Rattle.mps_fields.specs.declared.parts.Parts.{Parts}
+use Rattle.mps_fields.specs.DecimalParts.{ArePartsOf, parts_mantissa, parts_power}
+use Rattle.mps_fields.specs.declared.decimal_parts.Parts.{Parts}
 use Rattle.mps_fields.specs.BooleanLaws.{either}
 use Rattle.mps_fields.specs.ReadingLaws.{spells_found, found_spells}
 

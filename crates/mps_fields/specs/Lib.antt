@@ -4,7 +4,7 @@ pub mod FixedFields
 pub mod Decimal
 pub mod Reading
 pub mod ReadingLaws
-pub mod Parts
+pub mod DecimalParts
 pub mod LineViews
 pub mod FieldViews
 pub mod BooleanLaws

@@ -2,6 +2,10 @@
 use Rattle.std.specs.Prelude.{ℕ, ◌+◌, ◌-◌, Bool, false, not, ◌&&◌, ◌||◌, ◌==◌, if◌then◌else◌, List, [], ◌∷◌, map, length, take, slice_index}
 use Rattle.std.specs.List.{list_all}
 
+-- a text has at most so many bytes
+abbrev pub most_bytes : ℕ
+most_bytes = 16777216
+
 -- the list of lists that a byte begins, where the lists after it are known
 abbrev pub onto_first : ℕ → List (List ℕ) → List (List ℕ)
 onto_first byte [] = (byte ∷ []) ∷ []

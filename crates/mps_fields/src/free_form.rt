@@ -4,6 +4,7 @@ ghost use Rattle.std.specs.List.{All};
 ghost use Rattle.mps_fields.specs.FreeFields.{free_line, with_field};
 ghost use Rattle.mps_fields.specs.FieldViews.{field_span};
 ghost use Rattle.mps_fields.specs.LineViews.{line_view};
+ghost use Rattle.mps_fields.specs.Lines.{most_bytes};
 
 use crate::field::Field;
 use crate::runs::cut_run;
@@ -50,7 +51,7 @@ impl<'a> FreeFields<'a> {
     }
 
     fn add(&mut self, at: u32, text: &'a [u8])
-        requires { self.old.count < 16777216 }
+        requires { self.old.count < most_bytes }
         ensures { self.new ≡ with_field self.old (record { at = at; text = text.now }) }
     {
         if self.count < MOST_FIELDS {
@@ -91,7 +92,7 @@ impl<'a> FreeFields<'a> {
 
 /// The fields of a line in free form, of which the first six are kept.
 pub fn fields_free<'a>(line: &TextLine<'a>) -> FreeFields<'a>
-    requires { length line.now.bytes.now ≤ 16777216 }
+    requires { length line.now.bytes.now ≤ most_bytes }
     ensures { result ≡ free_line (line_view line.now) }
 {
     let mut found = FreeFields::new(line.number);

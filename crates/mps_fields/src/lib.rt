@@ -1,14 +1,14 @@
 //! The customary MPS formats: the lines of a text, the fields of a line in free and fixed form, and exact decimal numbers.
 #![tactic(auto)]
 
+mod decimal_parts;
+mod decimal_value;
 mod examples;
 mod field;
 mod fixed_form;
 mod free_form;
 mod numbers;
-mod parts;
 mod runs;
-mod scale;
 mod text_lines;
 
 pub use examples::{

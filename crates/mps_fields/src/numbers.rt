@@ -4,8 +4,8 @@ ghost use Rattle.exact_math.specs.Rational.{ℚ};
 ghost use Rattle.mps_fields.specs.Decimal.{IsNumber, MeansNumber, IsWideNumber};
 ghost use Rattle.mps_fields.specs.Reading.{number_of};
 
-use crate::parts::cut_parts;
-use crate::scale::value;
+use crate::decimal_parts::cut_parts;
+use crate::decimal_value::value;
 use frac128::Frac;
 
 /// Why a field has no value as a number.

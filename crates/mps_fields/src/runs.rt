@@ -1,7 +1,7 @@
 //! Runs of bytes other than blank and tab.
 ghost use Rattle.std.specs.Prelude.{◌≡◌, ◌+◌, ◌≤◌, [], not, position, length, MatchOption};
 ghost use Rattle.std.specs.List.{prefix_len, position_or_len};
-ghost use Rattle.mps_fields.specs.Lines.{is_blank as blank};
+ghost use Rattle.mps_fields.specs.Lines.{is_blank as blank, most_bytes};
 ghost use Rattle.mps_fields.specs.FreeFields.{fields_from};
 ghost use Rattle.mps_fields.specs.FieldViews.{CutsFirst};
 
@@ -58,7 +58,7 @@ fn run_len(bytes: &[u8]) -> usize
 
 /// The first run of bytes that begin at a place of a line, or `None` where only blanks are left.
 pub(crate) fn cut_run(bytes: &[u8], place: u32) -> Option<Cut<'_>>
-    requires { place + length bytes.now ≤ 16777216 }
+    requires { place + length bytes.now ≤ most_bytes }
     ensures { MatchOption result (fields_from place bytes.now ≡ []) (CutsFirst place bytes.now) }
 {
     let blanks = blanks_len(bytes);

@@ -1,7 +1,7 @@
 //! The lines of a text. Every line is a slice of the text.
 ghost use Rattle.std.specs.Prelude.{◌≡◌, ◌<◌, ◌≤◌, ◌==◌, ◌∷◌, position, length};
 ghost use Rattle.std.specs.List.{position_or_len};
-ghost use Rattle.mps_fields.specs.Lines.{pieces_of, lines_of, without_return as unreturned, numbered};
+ghost use Rattle.mps_fields.specs.Lines.{pieces_of, lines_of, without_return as unreturned, numbered, most_bytes};
 
 use std::marker::Model;
 
@@ -21,18 +21,18 @@ pub struct LineScan<'a> {
 
 impl<'a> Model for LineScan<'a> {
     ghost use Rattle.std.specs.Prelude.{◌+◌, ◌≤◌, length, List};
-    ghost use Rattle.mps_fields.specs.Lines.{Line, lines_of, numbered};
+    ghost use Rattle.mps_fields.specs.Lines.{Line, lines_of, numbered, most_bytes};
 
     ghost Value = { List Line };
 
     ghost view = { λ s. numbered s.number (lines_of s.rest.now) };
 
-    ghost invariant = { λ s. s.number + length s.rest.now ≤ 16777217 };
+    ghost invariant = { λ s. s.number + length s.rest.now ≤ most_bytes + 1 };
 }
 
 /// The lines of a text, which has at most 16,777,216 bytes.
 pub fn lines(text: &[u8]) -> LineScan<'_>
-    requires { length text.now ≤ 16777216 }
+    requires { length text.now ≤ most_bytes }
     ensures { result ≡ numbered 1 (lines_of text.now) }
 {
     LineScan {

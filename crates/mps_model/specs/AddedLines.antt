@@ -2,8 +2,8 @@
 use Rattle.std.specs.Prelude.{◌++◌, Option, Some, option_to_list}
 use Rattle.mps_fields.specs.Lines.{Line}
 use Rattle.mps_model.specs.declared.layout.Layout.{Layout}
-use Rattle.mps_model.specs.declared.section.Section.{Section}
-use Rattle.mps_model.specs.declared.section.Section.TheVariants.{Rows as ROWS, Columns as COLUMNS, Rhs as RHS, Ranges as RANGES, Bounds as BOUNDS}
+use Rattle.mps_model.specs.declared.lines.section.Section.{Section}
+use Rattle.mps_model.specs.declared.lines.section.Section.TheVariants.{Rows as ROWS, Columns as COLUMNS, Rhs as RHS, Ranges as RANGES, Bounds as BOUNDS}
 use Rattle.mps_model.specs.Tables.{RowLine, PairLine, ColumnLine, BoundLine, Tables, row_at, column_at, set_at, bound_at}
 
 abbrev pub with_row : Tables → Option RowLine → Tables

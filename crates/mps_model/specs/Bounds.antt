@@ -5,8 +5,8 @@ use Rattle.std.specs.Prelude.{ℕ, Bool, true, false, not, ◌||◌, List, [], �
 use Rattle.std.specs.Option.{option_map_or, option_or}
 use Rattle.std.specs.List.{list_any, last_or, before_first}
 use Rattle.exact_math.specs.Rational.{ℚ, whole}
-use Rattle.mps_model.specs.declared.bound_kind.BoundKind.{BoundKind}
-use Rattle.mps_model.specs.declared.bound_kind.BoundKind.TheVariants.{Lo as LO, Up as UP, Fx as FX, Fr as FR, Mi as MI, Pl as PL, Bv as BV, Li as LI, Ui as UI}
+use Rattle.mps_model.specs.declared.lines.bound_kind.BoundKind.{BoundKind}
+use Rattle.mps_model.specs.declared.lines.bound_kind.BoundKind.TheVariants.{Lo as LO, Up as UP, Fx as FX, Fr as FR, Mi as MI, Pl as PL, Bv as BV, Li as LI, Ui as UI}
 use Rattle.mps_model.specs.Tables.{PairLine, ColumnLine, marker, entries, BoundLine, Tables}
 use Rattle.mps_model.specs.Sides.{zero_ℚ, number_at}
 

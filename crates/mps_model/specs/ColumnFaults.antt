@@ -7,10 +7,10 @@ use Rattle.mps_fields.specs.Reading.{number_of}
 use Rattle.mps_model.specs.declared.layout.Layout.{Layout}
 use Rattle.mps_model.specs.declared.fault.FaultKind.{FaultKind}
 use Rattle.mps_model.specs.declared.fault.FaultKind.TheVariants as faults
-use Rattle.mps_model.specs.declared.bound_kind.BoundKind.{BoundKind}
+use Rattle.mps_model.specs.declared.lines.bound_kind.BoundKind.{BoundKind}
 use Rattle.mps_model.specs.Tables.{PairLine, takes_value, BoundLine, bound_with, Tables}
 use Rattle.mps_model.specs.Bounds.{last_of, lines_of_column, column_names, is_open, is_of_column}
-use Rattle.mps_model.specs.Rules.{first_holding, is_among, is_not_number, is_wide_number}
+use Rattle.mps_model.specs.FaultRules.{first_holding, is_among, is_not_number, is_wide_number}
 use Rattle.mps_model.specs.PairFaults.{pairs_fault, pair_fault, pair_names, is_second_set}
 
 -- a marker line has its word where markers are open or not

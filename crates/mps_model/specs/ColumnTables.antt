@@ -8,7 +8,7 @@ use Rattle.mps_model.specs.Sides.{has_sides, objective_row}
 use Rattle.mps_model.specs.Bounds.{last_of, entries_of, lines_of_column, column_names}
 use Rattle.mps_model.specs.declared.fault.FaultKind.{FaultKind}
 use Rattle.mps_model.specs.declared.fault.FaultKind.TheVariants as faults
-use Rattle.mps_model.specs.Rules.{first_holding, is_among}
+use Rattle.mps_model.specs.FaultRules.{first_holding, is_among}
 use Rattle.mps_model.specs.PairFaults.{pair_names}
 use Rattle.mps_model.specs.ColumnFaults.{is_known_column, goes_on}
 

@@ -1,10 +1,10 @@
 -- The factors that rows have in the columns of COLUMNS in fixed and free MPS (IBM's MPSX and its successors), as the code keeps
 -- them beside each row.
 use Rattle.std.specs.Prelude.{◌≡◌, if◌then◌else◌, List, [], map}
-use Rattle.mps_model.specs.declared.factors.RowFactors.{RowFactors}
-use Rattle.mps_model.specs.declared.factors.FactorTable.{FactorTable}
+use Rattle.mps_model.specs.declared.tables.factors.RowFactors.{RowFactors}
+use Rattle.mps_model.specs.declared.tables.factors.FactorTable.{FactorTable}
 use Rattle.mps_model.specs.Tables.{RowLine, ColumnLine}
-use Rattle.mps_model.specs.Stated.{items_of}
+use Rattle.mps_model.specs.StatedModel.{items_of}
 use Rattle.mps_model.specs.ColumnTables.{columns_alone, last_beside, is_stated_row}
 
 -- what lines of COLUMNS have beside a row: items are kept only of a row that the model states

@@ -9,10 +9,10 @@ use Rattle.std.specs.Option.{option_map_or}
 use Rattle.std.specs.List.{list_all}
 use Rattle.mps_fields.specs.Lines.{Line, is_blank, is_blank_line, is_data_line}
 use Rattle.mps_fields.specs.FixedFields.{field_between}
-use Rattle.mps_model.specs.declared.section.Section.TheVariants.{Bounds as BOUNDS}
+use Rattle.mps_model.specs.declared.lines.section.Section.TheVariants.{Bounds as BOUNDS}
 use Rattle.mps_model.specs.Sections.{table_of}
-use Rattle.mps_model.specs.Places.{fixed_texts}
-use Rattle.mps_model.specs.Stated.{model_lines}
+use Rattle.mps_model.specs.SixFields.{fixed_texts}
+use Rattle.mps_model.specs.StatedModel.{model_lines}
 
 -- a field is absent, or has neither blank nor tab inside
 abbrev pub has_no_blank : Option (List ℕ) → Bool

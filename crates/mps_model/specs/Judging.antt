@@ -4,8 +4,8 @@ use Rattle.mps_fields.specs.declared.numbers.NumberFault.{NumberFault}
 use Rattle.mps_fields.specs.declared.numbers.NumberFault.TheVariants as numbers
 use Rattle.mps_model.specs.declared.fault.FaultKind.{FaultKind}
 use Rattle.mps_model.specs.declared.fault.FaultKind.TheVariants as faults
-use Rattle.mps_model.specs.declared.stop.LineStop.{LineStop}
-use Rattle.mps_model.specs.declared.stop.LineStop.TheVariants.{Fault, NoMemory}
+use Rattle.mps_model.specs.declared.line_stop.LineStop.{LineStop}
+use Rattle.mps_model.specs.declared.line_stop.LineStop.TheVariants.{Fault, NoMemory}
 
 -- the line is refused with its fault, or, where it has none, taken; where it is taken this holds
 abbrev pub Judges : {A : Type 0} → Option FaultKind → Type 0 → Result A LineStop → Type 0

@@ -3,9 +3,9 @@ use Rattle.std.specs.Prelude.{◌≡◌, ℕ, ◌<◌, false, ◌||◌, List, []
 use Rattle.std.specs.Option.{option_or, option_copied}
 use Rattle.std.specs.List.{list_any}
 use Rattle.exact_math.specs.Rational.{ℚ}
-use Rattle.mps_model.specs.declared.bound_kind.BoundKind.{BoundKind}
-use Rattle.mps_model.specs.declared.bounds.ColumnBounds.{ColumnBounds}
-use Rattle.mps_model.specs.declared.bounds.BoundTable.{BoundTable}
+use Rattle.mps_model.specs.declared.lines.bound_kind.BoundKind.{BoundKind}
+use Rattle.mps_model.specs.declared.tables.bounds.ColumnBounds.{ColumnBounds}
+use Rattle.mps_model.specs.declared.tables.bounds.BoundTable.{BoundTable}
 use Rattle.mps_model.specs.Tables.{BoundLine, Tables}
 use Rattle.mps_model.specs.Bounds.{last_of, lower_by, upper_by, makes_integer, bounds_of, lower_entries, upper_entries}
 

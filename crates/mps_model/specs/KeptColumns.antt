@@ -1,7 +1,7 @@
 -- The columns of COLUMNS in fixed and free MPS (IBM's MPSX and its successors), as the code keeps them.
 use Rattle.std.specs.Prelude.{◌≡◌, ℕ, if◌then◌else◌, List, map, None}
-use Rattle.mps_model.specs.declared.columns.ColumnStart.{ColumnStart}
-use Rattle.mps_model.specs.declared.columns.ColumnTable.{ColumnTable}
+use Rattle.mps_model.specs.declared.tables.columns.ColumnStart.{ColumnStart}
+use Rattle.mps_model.specs.declared.tables.columns.ColumnTable.{ColumnTable}
 use Rattle.mps_model.specs.Tables.{RowLine, ColumnLine}
 use Rattle.mps_model.specs.Bounds.{last_of, column_names, is_open, is_between_markers}
 use Rattle.mps_model.specs.Meaning.{first_line_of}

@@ -3,24 +3,23 @@ use Rattle.std.specs.Prelude.{◌≡◌, ℕ, Bool, true, false, List, [], lengt
 use Rattle.std.specs.List.{list_any, last_or}
 use Rattle.mps_fields.specs.Lines.{Line}
 use Rattle.mps_model.specs.declared.layout.Layout.{Layout}
-use Rattle.mps_model.specs.declared.section.Section.{Section}
-use Rattle.mps_model.specs.declared.section.Section.TheVariants.{Columns as COLUMNS, Rhs as RHS, Ranges as RANGES, Bounds as BOUNDS}
-use Rattle.mps_model.specs.declared.data_fields.DataFields.{DataFields}
-use Rattle.mps_model.specs.declared.stop.LineStop.{LineStop}
-use Rattle.mps_model.specs.declared.text_tables.TextTables.{TextTables}
+use Rattle.mps_model.specs.declared.lines.section.Section.{Section}
+use Rattle.mps_model.specs.declared.lines.section.Section.TheVariants.{Columns as COLUMNS, Rhs as RHS, Ranges as RANGES, Bounds as BOUNDS}
+use Rattle.mps_model.specs.declared.lines.data_fields.DataFields.{DataFields}
+use Rattle.mps_model.specs.declared.line_stop.LineStop.{LineStop}
+use Rattle.mps_model.specs.declared.tables.text_tables.TextTables.{TextTables}
 use Rattle.mps_model.specs.SectionOrder.{is_same, sections_in}
 use Rattle.mps_model.specs.Tables.{RowLine, PairLine, Tables, tables_of}
 use Rattle.mps_model.specs.Bounds.{column_names}
 use Rattle.mps_model.specs.RowFaults.{row_names}
 use Rattle.mps_model.specs.LineFaults.{data_fault}
-use Rattle.mps_model.specs.CutLines.{Cuts}
+use Rattle.mps_model.specs.FieldCuts.{Cuts}
 use Rattle.mps_model.specs.AddedLines.{with_line}
 use Rattle.mps_model.specs.Judging.{Judges}
-use Rattle.mps_model.specs.KeptOrder.{are_in_order}
+use Rattle.mps_model.specs.KeptSectionOrder.{are_in_order}
 use Rattle.mps_model.specs.KeptColumns.{KeepsColumns}
 use Rattle.mps_model.specs.KeptSides.{KeepsPairs, KeepsRanges}
 use Rattle.mps_model.specs.KeptBounds.{KeepsBounds}
-use Rattle.mps_model.specs.KeptTables.{AreNarrow}
 
 -- a table is new before its section comes, and keeps the section's lines from there on
 pub record KeptFrom (came : Bool) (new kept : Type 0) : Type 0 where
@@ -50,10 +49,9 @@ pub record KeepsSections (sections : List Section) (tables : Tables) (kept : Tex
 abbrev pub IsSized : TextTables → Type 0
 IsSized kept = IfSome kept.columns (λ columns. length columns.factors.rows.items ≡ length kept.rows)
 
--- the tables can be made a model: the columns are there, and no range makes a side that is too wide
-pub record IsBuildable (kept : TextTables) : Type 0 where
-  pub columns : IsSomeAnd kept.columns (λ columns. length columns.factors.rows.items ≡ length kept.rows)
-  pub narrow : AreNarrow kept.rows kept.sides kept.ranges
+-- the tables can be made a model: the columns are there
+abbrev pub IsBuildable : TextTables → Type 0
+IsBuildable kept = IsSomeAnd kept.columns (λ columns. length columns.factors.rows.items ≡ length kept.rows)
 
 -- a call judges a data line in a section by its fields, and takes it into the tables
 abbrev pub TakesLine : {A : Type 0} → Option Section → DataFields → TextTables → TextTables → Result A LineStop → Type 0

@@ -1,15 +1,14 @@
 -- What the reader keeps of the lines of RHS, or of RANGES, above: the number of each row, and the set name of the first line.
-use Rattle.std.specs.Prelude.{◌≡◌, ℕ, ◌-◌, true, List, [], ◌∷◌, ◌++◌, length, map, replicate, slice_get, Option, Some, None, unwrap_or, IfSome}
+use Rattle.std.specs.Prelude.{◌≡◌, ℕ, ◌-◌, List, [], ◌∷◌, ◌++◌, length, map, replicate, slice_get, Option, Some, None, option_map, unwrap_or}
 use Rattle.std.specs.Option.{option_copied}
-use Rattle.exact_math.specs.Rational.{ℚ}
+use Rattle.exact_math.specs.Rational.{ℚ, ◌+ℚ◌}
 use Rattle.mps_model.specs.declared.fault.FaultKind.{FaultKind}
 use Rattle.mps_model.specs.declared.fault.FaultKind.TheVariants as faults
-use Rattle.mps_model.specs.declared.sides.SideTable.{SideTable}
-use Rattle.mps_model.specs.declared.row_sides.RowSides.{RowSides}
+use Rattle.mps_model.specs.declared.tables.sides.SideTable.{SideTable}
+use Rattle.mps_model.specs.declared.model.row_sides.RowSides.{RowSides}
 use Rattle.mps_model.specs.Tables.{RowLine, Pair, PairLine}
-use Rattle.mps_model.specs.Sides.{Sides, zero_ℚ, number_beside, pairs_of, range_step, sum_fits}
-use Rattle.mps_model.specs.Rules.{first_holding}
-use Rattle.mps_model.specs.RowFaults.{row_names}
+use Rattle.mps_model.specs.Sides.{Sides, side_in, number_beside, pairs_of, range_step}
+use Rattle.mps_model.specs.FaultRules.{first_holding}
 use Rattle.mps_model.specs.PairFaults.{first_label, is_second_set}
 
 -- what is judged of a line before its pairs: its fields, and its set name beside the section's first one
@@ -34,18 +33,18 @@ pub record KeepsPairs (names : List (List ℕ)) (lines : List PairLine) (table :
   pub set : option_copied table.set ≡ first_label lines
   pub numbers : padded (length names) table.numbers.items ≡ map (number_beside (pairs_of lines)) names
 
--- the side of a row that lines of RHS give
-abbrev pub side_in : List PairLine → List ℕ → ℚ
-side_in sides name = unwrap_or (number_beside (pairs_of sides) name) zero_ℚ
+-- the end to which a range, if there is one, goes from the side of a row
+abbrev pub range_end : ℚ → RowLine → Option ℚ → Option ℚ
+range_end side row range = option_map (λ r. side +ℚ range_step row r) range
 
--- the side that a row's range makes, if it has a range in these pairs, is in the range of exact fractions
-abbrev pub HasNarrowRange : List PairLine → List Pair → RowLine → Type 0
-HasNarrowRange sides pairs row = IfSome (number_beside pairs row.name) (λ range. sum_fits (side_in sides row.name) (range_step row range) ≡ true)
+-- the end of a row, if it has a range in these pairs, beside the side that lines of RHS give
+abbrev pub end_in : List PairLine → List Pair → RowLine → Option ℚ
+end_in sides pairs row = range_end (side_in sides row.name) row (number_beside pairs row.name)
 
--- the table has the ranges of these rows, none of which makes a side that is too wide
+-- the table has the end of each of these rows, and the first set name
 pub record KeepsRanges (rows : List RowLine) (sides ranges : List PairLine) (table : SideTable) : Type 0 where
-  pub pairs : KeepsPairs (row_names rows) ranges table
-  pub narrow : (place : ℕ) → IfSome (slice_get rows place) (HasNarrowRange sides (pairs_of ranges))
+  pub set : option_copied table.set ≡ first_label ranges
+  pub ends : padded (length rows) table.numbers.items ≡ map (end_in sides (pairs_of ranges)) rows
 
 -- the sides of a row in the code
 abbrev pub sides_view : RowSides → Sides

@@ -1,18 +1,17 @@
 -- What the reader keeps of all lines above, and what of that it needs to build the model.
-use Rattle.std.specs.Prelude.{◌≡◌, ℕ, true, List, slice_get, Some, unwrap_or, IfSome}
+use Rattle.std.specs.Prelude.{◌≡◌, ℕ, true, List, slice_get, Some}
 use Rattle.std.specs.List.{HoldsAt}
-use Rattle.frac128.specs.Range.{SumInRange}
-use Rattle.mps_model.specs.declared.columns.ColumnTable.{ColumnTable}
-use Rattle.mps_model.specs.declared.factors.RowFactors.{RowFactors}
-use Rattle.mps_model.specs.declared.sides.SideTable.{SideTable}
-use Rattle.mps_model.specs.declared.bounds.BoundTable.{BoundTable}
+use Rattle.mps_model.specs.declared.tables.columns.ColumnTable.{ColumnTable}
+use Rattle.mps_model.specs.declared.tables.factors.RowFactors.{RowFactors}
+use Rattle.mps_model.specs.declared.tables.sides.SideTable.{SideTable}
+use Rattle.mps_model.specs.declared.tables.bounds.BoundTable.{BoundTable}
 use Rattle.mps_model.specs.Tables.{RowLine, Tables}
-use Rattle.mps_model.specs.Sides.{zero_ℚ, has_sides, range_step}
+use Rattle.mps_model.specs.Sides.{has_sides}
 use Rattle.mps_model.specs.Bounds.{column_names}
-use Rattle.mps_model.specs.Stated.{items_of}
+use Rattle.mps_model.specs.StatedModel.{items_of}
 use Rattle.mps_model.specs.RowFaults.{row_names}
 use Rattle.mps_model.specs.KeptColumns.{KeepsColumns}
-use Rattle.mps_model.specs.KeptSides.{number_in, KeepsPairs, KeepsRanges}
+use Rattle.mps_model.specs.KeptSides.{KeepsPairs, KeepsRanges}
 use Rattle.mps_model.specs.KeptBounds.{KeepsBounds}
 
 -- the five tables of the code have what the definitions' tables have
@@ -22,12 +21,6 @@ pub record KeepsTables (tables : Tables) (rows : List RowLine) (columns : Column
   pub sides_kept : KeepsPairs (row_names tables.rows) tables.sides sides
   pub ranges_kept : KeepsRanges tables.rows tables.sides tables.ranges ranges
   pub bounds_kept : KeepsBounds (column_names tables.columns) tables.bounds bounds
-
--- no range of a row makes a side that is out of the range of exact fractions
-abbrev pub AreNarrow : List RowLine → SideTable → SideTable → Type 0
-AreNarrow rows sides ranges =
-    (i : ℕ) → IfSome (slice_get rows i) (λ row. IfSome (number_in ranges.numbers.items i)
-    (λ range. SumInRange (unwrap_or (number_in sides.numbers.items i) zero_ℚ) (range_step row range)))
 
 -- beside each row with sides stand the items that the tables state
 abbrev pub HaveItems : Tables → List RowFactors → Type 0

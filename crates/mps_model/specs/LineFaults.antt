@@ -9,12 +9,12 @@ use Rattle.mps_model.specs.declared.layout.Layout.{Layout}
 use Rattle.mps_model.specs.declared.layout.Layout.TheVariants.{Free, Fixed}
 use Rattle.mps_model.specs.declared.fault.FaultKind.{FaultKind}
 use Rattle.mps_model.specs.declared.fault.FaultKind.TheVariants as faults
-use Rattle.mps_model.specs.declared.section.Section.{Section}
-use Rattle.mps_model.specs.declared.section.Section.TheVariants.{Name as NAME, Rows as ROWS, Columns as COLUMNS, Rhs as RHS, Ranges as RANGES, Bounds as BOUNDS}
+use Rattle.mps_model.specs.declared.lines.section.Section.{Section}
+use Rattle.mps_model.specs.declared.lines.section.Section.TheVariants.{Name as NAME, Rows as ROWS, Columns as COLUMNS, Rhs as RHS, Ranges as RANGES, Bounds as BOUNDS}
 use Rattle.mps_model.specs.Sections.{free_texts, begins, section_at, is_content}
 use Rattle.mps_model.specs.SectionOrder.{sections_in, is_in_order}
 use Rattle.mps_model.specs.Tables.{is_marker, row_at, marker_at, entries_at, set_at, bound_kind_at, Tables, tables_of}
-use Rattle.mps_model.specs.Rules.{first_holding}
+use Rattle.mps_model.specs.FaultRules.{first_holding}
 use Rattle.mps_model.specs.RowFaults.{row_fault}
 use Rattle.mps_model.specs.PairFaults.{pair_fault, range_fault, set_fault}
 use Rattle.mps_model.specs.ColumnFaults.{marker_fault, column_fault, bound_fault}

@@ -9,13 +9,13 @@ use Rattle.mps_model.specs.declared.layout.Layout.{Layout}
 use Rattle.mps_model.specs.declared.fault.FaultKind.{FaultKind}
 use Rattle.mps_model.specs.declared.fault.FaultKind.TheVariants as faults
 use Rattle.mps_model.specs.declared.fault.TextFault.{TextFault}
-use Rattle.mps_model.specs.declared.section.Section.TheVariants.{Endata as ENDATA}
+use Rattle.mps_model.specs.declared.lines.section.Section.TheVariants.{Endata as ENDATA}
 use Rattle.mps_model.specs.Sections.{begins, text_lines}
 use Rattle.mps_model.specs.Tables.{Tables, tables_of}
 use Rattle.mps_model.specs.Sides.{is_negative}
 use Rattle.mps_model.specs.Bounds.{lines_of_column, column_names, lower_entries, lower_of, upper_of, is_integer}
-use Rattle.mps_model.specs.Stated.{model_lines, means}
-use Rattle.mps_model.specs.Rules.{first_holding}
+use Rattle.mps_model.specs.StatedModel.{model_lines, means}
+use Rattle.mps_model.specs.FaultRules.{first_holding}
 use Rattle.mps_model.specs.LineFaults.{line_fault}
 
 abbrev pub fault_on : ℕ → FaultKind → TextFault

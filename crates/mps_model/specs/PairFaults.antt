@@ -7,7 +7,7 @@ use Rattle.mps_model.specs.declared.fault.FaultKind.{FaultKind}
 use Rattle.mps_model.specs.declared.fault.FaultKind.TheVariants as faults
 use Rattle.mps_model.specs.Tables.{RowLine, Pair, PairLine, Tables}
 use Rattle.mps_model.specs.Sides.{number_at, is_free_row, pairs_of, side_of, range_step, sum_fits}
-use Rattle.mps_model.specs.Rules.{first_holding, is_among, is_not_number, is_wide_number}
+use Rattle.mps_model.specs.FaultRules.{first_holding, is_among, is_not_number, is_wide_number}
 use Rattle.mps_model.specs.RowFaults.{row_names}
 
 -- the rows that are taken already are those of the lines above in the same table, and of the line's first pair

@@ -4,7 +4,7 @@ use Rattle.mps_model.specs.declared.fault.FaultKind.{FaultKind}
 use Rattle.mps_model.specs.declared.fault.FaultKind.TheVariants as faults
 use Rattle.mps_model.specs.Tables.{RowLine, Tables}
 use Rattle.mps_model.specs.Sides.{is_free_row, has_sides, sided_rows}
-use Rattle.mps_model.specs.Rules.{first_holding, is_among}
+use Rattle.mps_model.specs.FaultRules.{first_holding, is_among}
 
 abbrev pub row_names : List RowLine → List (List ℕ)
 row_names rows = map (λ row. row.name) rows

@@ -1,7 +1,7 @@
 -- The kinds of rows in fixed and free MPS (IBM's MPSX and its successors) by their letters, and rows by kind and name.
 use Rattle.std.specs.Prelude.{◌≡◌, ℕ, ◌≤◌, List, [], ◌∷◌, length, find, position, Option, codes, bytes_eq}
-use Rattle.mps_model.specs.declared.row_kind.RowKind.{RowKind}
-use Rattle.mps_model.specs.declared.row_kind.RowKind.TheVariants.{Free, Equal, AtMost, AtLeast}
+use Rattle.mps_model.specs.declared.tables.row_kind.RowKind.{RowKind}
+use Rattle.mps_model.specs.declared.tables.row_kind.RowKind.TheVariants.{Free, Equal, AtMost, AtLeast}
 use Rattle.mps_model.specs.Tables.{RowLine}
 use Rattle.mps_model.specs.Sides.{is_free_row, sided_rows}
 

@@ -4,8 +4,8 @@
 use Rattle.std.specs.Prelude.{Bool, true, false, not, ◌&&◌, List, filter_map, Option, Some, None, bytes_eq}
 use Rattle.std.specs.List.{list_any, last_or}
 use Rattle.mps_fields.specs.Lines.{Line}
-use Rattle.mps_model.specs.declared.section.Section.{Section}
-use Rattle.mps_model.specs.declared.section.Section.TheVariants.{Name as NAME, Rows as ROWS, Columns as COLUMNS, Rhs as RHS, Ranges as RANGES, Bounds as BOUNDS, Endata as ENDATA}
+use Rattle.mps_model.specs.declared.lines.section.Section.{Section}
+use Rattle.mps_model.specs.declared.lines.section.Section.TheVariants.{Name as NAME, Rows as ROWS, Columns as COLUMNS, Rhs as RHS, Ranges as RANGES, Bounds as BOUNDS, Endata as ENDATA}
 use Rattle.mps_model.specs.Sections.{word_of, section_at}
 
 -- a section may stand next behind another

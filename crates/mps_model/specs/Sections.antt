@@ -3,8 +3,8 @@
 -- are passed over.
 use Rattle.std.specs.Prelude.{ℕ, Bool, not, ◌&&◌, List, [], ◌∷◌, map, filter, find, slice_get, Option, unwrap_or, codes, bytes_eq}
 use Rattle.std.specs.List.{before_first, after_first}
-use Rattle.mps_model.specs.declared.section.Section.{Section}
-use Rattle.mps_model.specs.declared.section.Section.TheVariants.{Name as NAME, Rows as ROWS, Columns as COLUMNS, Rhs as RHS, Ranges as RANGES, Bounds as BOUNDS, Endata as ENDATA}
+use Rattle.mps_model.specs.declared.lines.section.Section.{Section}
+use Rattle.mps_model.specs.declared.lines.section.Section.TheVariants.{Name as NAME, Rows as ROWS, Columns as COLUMNS, Rhs as RHS, Ranges as RANGES, Bounds as BOUNDS, Endata as ENDATA}
 use Rattle.mps_fields.specs.Lines.{Line, lines_of, numbered, is_comment, is_blank_line, is_section_line}
 use Rattle.mps_fields.specs.FreeFields.{free_fields}
 

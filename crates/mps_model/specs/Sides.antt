@@ -53,8 +53,11 @@ abbrev pub number_beside : List Pair → List ℕ → Option ℚ
 number_beside pairs name = option_map (λ pair. number_at pair.number) (find (λ pair. bytes_eq pair.name name) pairs)
 
 -- b, which is 0 for a row that no line of RHS names
+abbrev pub side_in : List PairLine → List ℕ → ℚ
+side_in sides name = unwrap_or (number_beside (pairs_of sides) name) zero_ℚ
+
 abbrev pub side_of : Tables → List ℕ → ℚ
-side_of tables name = unwrap_or (number_beside (pairs_of tables.sides) name) zero_ℚ
+side_of tables name = side_in tables.sides name
 
 -- how far a range of R goes from b: down from the side of an L row, up from that of a G row, by R itself on an E row
 abbrev pub range_step : RowLine → ℚ → ℚ

@@ -4,11 +4,11 @@ use Rattle.std.specs.Prelude.{ℕ, Bool, true, false, option_and_then, if◌then
 use Rattle.std.specs.Option.{option_map_or}
 use Rattle.mps_fields.specs.Lines.{Line}
 use Rattle.mps_model.specs.declared.layout.Layout.{Layout}
-use Rattle.mps_model.specs.declared.section.Section.TheVariants.{Rows as ROWS, Columns as COLUMNS, Rhs as RHS, Ranges as RANGES, Bounds as BOUNDS}
+use Rattle.mps_model.specs.declared.lines.section.Section.TheVariants.{Rows as ROWS, Columns as COLUMNS, Rhs as RHS, Ranges as RANGES, Bounds as BOUNDS}
 use Rattle.mps_model.specs.Sections.{table_of}
-use Rattle.mps_model.specs.declared.bound_kind.BoundKind.{BoundKind}
-use Rattle.mps_model.specs.declared.bound_kind.BoundKind.TheVariants.{Lo as LO, Up as UP, Fx as FX, Fr as FR, Mi as MI, Pl as PL, Bv as BV, Li as LI, Ui as UI}
-use Rattle.mps_model.specs.Places.{Fields, row_places, column_places, set_places, value_places, bare_places, marker_places, places, kind_text, mark_text}
+use Rattle.mps_model.specs.declared.lines.bound_kind.BoundKind.{BoundKind}
+use Rattle.mps_model.specs.declared.lines.bound_kind.BoundKind.TheVariants.{Lo as LO, Up as UP, Fx as FX, Fr as FR, Mi as MI, Pl as PL, Bv as BV, Li as LI, Ui as UI}
+use Rattle.mps_model.specs.SixFields.{Fields, row_places, column_places, set_places, value_places, bare_places, marker_places, places, kind_text, mark_text}
 
 -- a line of ROWS: a kind, which is to be N, E, L or G, and a name
 pub record RowLine : Type 0 where

@@ -8,7 +8,7 @@ ghost use Rattle.mps_model.specs.declared.layout.Layout.TheVariants.{Free, Fixed
 ghost use Rattle.mps_model.specs.declared.fault.FaultKind.TheVariants as faults;
 ghost use Rattle.mps_model.specs.Tables.{tables_of};
 ghost use Rattle.mps_model.specs.Bounds.{is_integer};
-ghost use Rattle.mps_model.specs.Stated.{means, model_lines};
+ghost use Rattle.mps_model.specs.StatedModel.{means, model_lines};
 ghost use Rattle.mps_model.specs.RowFaults.{row_fault};
 ghost use Rattle.mps_model.specs.ColumnFaults.{column_fault};
 ghost use Rattle.std.specs.Bool.{Decides};

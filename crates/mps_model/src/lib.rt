@@ -1,33 +1,17 @@
 //! What a model text in the customary MPS formats means: the model that it states, or its first fault.
 #![tactic(auto)]
 
-mod bound_kind;
-mod bounds;
-mod building;
-mod columns;
-mod data_fields;
-mod data_line;
 mod examples;
-mod factors;
 mod fault;
-mod judgement;
 mod layout;
 mod layout_law;
-mod line_kind;
-mod names;
-mod order;
-mod places;
+mod line_stop;
+mod lines;
+mod model;
 mod read_stop;
 mod reader;
 mod reading;
-mod row_kind;
-mod row_sides;
-mod rows;
-mod section;
-mod sections;
-mod sides;
-mod stop;
-mod text_tables;
+mod tables;
 
 pub use examples::{
     faultless_columns, one_meaning, side_test_is_the_range, worked_bound_faults, worked_bounds,

@@ -3,7 +3,7 @@ ghost use Rattle.std.specs.Prelude.{◌≡◌};
 ghost use Rattle.mps_model.specs.declared.read_stop.ReadStop.TheVariants.{NoMemory as no_memory};
 
 use crate::fault::TextFault;
-use crate::stop::LineStop;
+use crate::line_stop::LineStop;
 use sequence::NoMemory;
 
 /// Why a text gave no model.
@@ -23,7 +23,7 @@ impl From<NoMemory> for ReadStop {
 }
 
 impl ReadStop {
-    ghost use Rattle.mps_model.specs.Answers.{stop_on};
+    ghost use Rattle.mps_model.specs.ReadAnswers.{stop_on};
 
     /// A stop at the line of this number.
     pub(crate) fn on_line(line: u32, stop: LineStop) -> ReadStop

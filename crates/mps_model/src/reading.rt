@@ -4,6 +4,7 @@ ghost use Rattle.exact_math.specs.Rational.{whole};
 ghost use Rattle.mps_model.specs.declared.fault.TextFault.{TextFault as Fault};
 ghost use Rattle.mps_model.specs.Meaning.{meaning};
 ghost use Rattle.mps_model.specs.ModelLimits.{KeepsLimits};
+ghost use Rattle.mps_fields.specs.Lines.{most_bytes};
 
 use crate::fault::{FaultKind, TextFault};
 use crate::layout::Layout;
@@ -33,7 +34,7 @@ pub fn read(
     text: &[u8],
 ) -> Result<Model, ReadStop>
     requires upper { IfSome upper (λ bound. pos 0 ≤ℤ bound) }
-    requires size { length text.now ≤ 16777216 }
+    requires size { length text.now ≤ most_bytes }
     ensures model { IfOk result (λ model. meaning layout upper text.now ≡ Ok model) }
     ensures fault { (fault : Fault) → result ≡ Err (ReadStop.Fault fault) → meaning layout upper text.now ≡ Err fault }
     ensures limits { IfOk result KeepsLimits }

@@ -1,18 +1,17 @@
 -- What one more item does to the sums of a line's items.
-use Rattle.std.proofs.Common.{◌≡◌, ℕ, zero, suc, ◌+◌, ◌*◌, ◌<◌, ◌≤◌, List, [], ◌∷◌, ◌++◌, length, take, drop, get_or, map, max, ℤ, pos, neg_ℤ, ◌+ℤ◌, ◌-ℤ◌, ◌*ℤ◌, ◌≤ℤ◌, ◌<ℤ◌, nat_abs, refl, sym, ap, ap₂, ◌∙◌, arith, ⊎_elim, ◌-◌}
+use Rattle.std.proofs.Common.{◌≡◌, ℕ, zero, suc, ◌+◌, ◌<◌, ◌≤◌, List, [], ◌∷◌, length, get_or, ℤ, pos, neg_ℤ, ◌+ℤ◌, ◌-ℤ◌, ◌*ℤ◌, nat_abs, refl, sym, ap, ap₂, ◌∙◌, arith, ⊎_elim, ◌-◌}
 use Rattle.std.specs.List.{insert, sum_by}
 use Rattle.std.proofs.lemmas.List.Sums.{sum_by-cons}
 use Rattle.std.proofs.lemmas.Bool.{cases_lt}
 use Rattle.std.specs.List.Sorted.{IsStrictlyIncreasing}
 use Rattle.std.proofs.lemmas.List.Edits.{get_or-insert_below, get_or-insert_at, get_or-insert_above, length-insert}
 use Rattle.exact_math.specs.Ring.{integers}
-use Rattle.exact_math.specs.IntegerRing.{linear, expand, mul_comm, mul_neg, neg_mul, mul_zero, zero_mul, add_left_comm, mul_one, one_mul}
-use Rattle.exact_vectors.specs.Vectors.{dot, add, scale, negate, zeros}
-use Rattle.exact_vectors.specs.Matrices.{combination}
+use Rattle.exact_math.specs.IntegerRing.{linear, mul_neg, neg_mul, mul_zero, add_left_comm, mul_one}
+use Rattle.exact_vectors.specs.Vectors.{add, scale, negate, zeros}
 use Rattle.farkas_rows.specs.declared.line.Use.{Use}
 use Rattle.farkas_rows.specs.Inequalities.{Inequality, unit}
 use Rattle.farkas_rows.specs.Refutes.{inequality_weight}
-use Rattle.plain_slices.specs.Items.{numbers_of, times_of, left_of, limit_of, weight_of, less}
+use Rattle.plain_slices.specs.Items.{numbers_of, left_of, limit_of, weight_of, less}
 
 -- the order in which lists are added does not matter
 add_swap : (a b c : List ℤ) → add integers a (add integers b c) ≡ add integers b (add integers a c)
@@ -51,15 +50,15 @@ pub rising-insert : (xs : List ℕ) (i x : ℕ) → i ≤ length xs → IsStrict
 rising-insert xs i x within rising before after k h =
     let n = length-insert xs i x within in
     ⊎_elim
-      (λ (below : k + 1 < i). rw (get_or-insert_below xs i x 0 k (omega arith) within, get_or-insert_below xs i x 0 (k + 1) below within) (rising k (omega arith)))
-      (λ (from : i ≤ k + 1). ⊎_elim
-        (λ (last : k < i). let e : k + 1 ≡ i = omega arith in rw (get_or-insert_below xs i x 0 k last within, ap (λ j. get_or (insert xs i x) j 0) e, get_or-insert_at xs i x 0 within) (before k e))
-        (λ (past : i ≤ k). rw (get_or-insert_above xs i x 0 k past within) (⊎_elim
-          (λ (more : i < k). let m : (k - 1) + 1 ≡ k = omega arith in rw (← m) (rw (get_or-insert_above xs i x 0 (k - 1) (omega arith) within) (rising (k - 1) (omega arith))))
-          (λ (at : k ≤ i). let e : k ≡ i = omega arith in rw (e, get_or-insert_at xs i x 0 within) (after (omega arith)))
-          (cases_lt i k)))
-        (cases_lt k i))
-      (cases_lt (k + 1) i)
+    (λ (below : k + 1 < i). rw (get_or-insert_below xs i x 0 k (omega arith) within, get_or-insert_below xs i x 0 (k + 1) below within) (rising k (omega arith)))
+    (λ (from : i ≤ k + 1). ⊎_elim
+    (λ (last : k < i). let e : k + 1 ≡ i = omega arith in rw (get_or-insert_below xs i x 0 k last within, ap (λ j. get_or (insert xs i x) j 0) e, get_or-insert_at xs i x 0 within) (before k e))
+    (λ (past : i ≤ k). rw (get_or-insert_above xs i x 0 k past within) (⊎_elim
+    (λ (more : i < k). let m : (k - 1) + 1 ≡ k = omega arith in rw (← m) (rw (get_or-insert_above xs i x 0 (k - 1) (omega arith) within) (rising (k - 1) (omega arith))))
+    (λ (at : k ≤ i). let e : k ≡ i = omega arith in rw (e, get_or-insert_at xs i x 0 within) (after (omega arith)))
+    (cases_lt i k)))
+    (cases_lt k i))
+    (cases_lt (k + 1) i)
 
 -- ---- units
 

@@ -1,6 +1,11 @@
-pub mod EndLemmas
-pub mod SliceLemmas
 pub mod ItemLaws
 pub mod UnitLaws
 pub mod NumberLaws
 pub mod NodeSteps
+pub mod BitLaws
+pub mod BalanceLaws
+pub mod SideLaws
+pub mod RefuteLaws
+pub mod ShutLaws
+pub mod HasSideLaws
+pub mod SplitLaws

@@ -1,10 +1,10 @@
 -- Which inequality has which number.
-use Rattle.std.proofs.Common.{◌≡◌, ℕ, zero, suc, ◌+◌, ◌*◌, ◌<◌, ◌≤◌, List, [], ◌∷◌, ◌++◌, length, get_or, pos, refl, sym, ap, ◌∙◌, arith}
+use Rattle.std.proofs.Common.{◌≡◌, ℕ, zero, suc, ◌+◌, ◌*◌, ◌<◌, List, [], ◌∷◌, ◌++◌, length, get_or, pos, refl, ap, ◌∙◌, arith}
 use Rattle.std.specs.Prelude.{Option, Some, None, flat_map, option_map}
 use Rattle.whole_rows.specs.declared.bounds.Bounds.{Bounds}
 use Rattle.whole_rows.specs.WholeRows.{WholeRow, WholeRows, row_at, bounds_at}
 use Rattle.farkas_rows.specs.declared.path.Slice.{Slice}
-use Rattle.farkas_rows.specs.Inequalities.{Inequality, at_most, at_least, unit, row_sides, column_bounds, slice_sides, inequality_at}
+use Rattle.farkas_rows.specs.Inequalities.{Inequality, at_most, at_least, unit, column_bounds, inequality_at}
 
 -- ---- lists of pairs
 
@@ -64,7 +64,6 @@ bounds-past columns column (bounds ∷ box) rest j (suc (suc k)) e = bounds-past
 -- ---- a node's
 
 module _ (rows : WholeRows) (path : List Slice) (end : Option Inequality) where
-
   -- the upper side of a row
   pub number-row_upper : (i : ℕ) → i < length rows.rows → inequality_at rows path end (2 * i) ≡ option_map (at_most (row_at rows i).factors) (row_at rows i).high
   number-row_upper i h = pairs-first (λ (row : WholeRow). option_map (at_most row.factors) row.high) (λ (row : WholeRow). option_map (at_least row.factors) row.low) rows.rows _ (record { factors = []; low = None; high = None }) i (2 * i) h refl

@@ -1,9 +1,9 @@
 -- Forms that are one column's value, or minus it, factor by factor.
-use Rattle.std.proofs.Common.{◌≡◌, ◌≢◌, ◌⊎◌, inl, inr, ℕ, zero, suc, ◌+◌, ◌<◌, ◌≤◌, Bool, true, false, cond, List, [], ◌∷◌, length, get_or, set, ℤ, pos, negsuc, neg_ℤ, ◌+ℤ◌, ◌*ℤ◌, ◌<ℤ◌, refl, sym, ap, ap₂, ◌∙◌, subst, arith, ⊎_elim}
+use Rattle.std.proofs.Common.{◌≡◌, ◌≢◌, ◌⊎◌, inl, inr, ℕ, zero, suc, ◌+◌, ◌<◌, ◌≤◌, Bool, true, false, List, [], ◌∷◌, length, get_or, set, ℤ, pos, negsuc, neg_ℤ, refl, sym, ap, ap₂, ◌∙◌, arith, ⊎_elim}
 use Rattle.std.proofs.lemmas.Bool.{cases_lt}
 use Rattle.exact_math.specs.Ring.{integers}
 use Rattle.exact_math.specs.IntegerRing.{linear}
-use Rattle.exact_vectors.specs.Vectors.{dot, negate, zeros}
+use Rattle.exact_vectors.specs.Vectors.{negate, zeros}
 use Rattle.farkas_rows.specs.Inequalities.{unit}
 use Rattle.plain_slices.specs.Shut.{IsColumn}
 use Rattle.plain_slices.specs.Nodes.{signed_unit}
@@ -97,12 +97,12 @@ pub no_column-factor : (n i : ℕ) (form : List ℤ) → get_or form i (pos 0) �
 no_column-factor n i form zero_not one_not minus_not column lt is = ⊎_elim
     (λ (below : i < column). zero_not (column-other n column i form (omega arith) is))
     (λ (from : column ≤ i). ⊎_elim
-      (λ (above : column < i). zero_not (column-other n column i form (omega arith) is))
-      (λ (same : i ≤ column). let e : column ≡ i = omega arith in ⊎_elim
-        (λ (one : get_or form column (pos 0) ≡ pos 1). one_not (ap (λ k. get_or form k (pos 0)) (sym e) ∙ one))
-        (λ (minus : get_or form column (pos 0) ≡ negsuc 0). minus_not (ap (λ k. get_or form k (pos 0)) (sym e) ∙ minus))
-        (column-same n column form lt is))
-      (cases_lt column i))
+    (λ (above : column < i). zero_not (column-other n column i form (omega arith) is))
+    (λ (same : i ≤ column). let e : column ≡ i = omega arith in ⊎_elim
+    (λ (one : get_or form column (pos 0) ≡ pos 1). one_not (ap (λ k. get_or form k (pos 0)) (sym e) ∙ one))
+    (λ (minus : get_or form column (pos 0) ≡ negsuc 0). minus_not (ap (λ k. get_or form k (pos 0)) (sym e) ∙ minus))
+    (column-same n column form lt is))
+    (cases_lt column i))
     (cases_lt i column)
 
 -- zeros before a place and after it

@@ -1,5 +1,6 @@
-pub mod Slices
-pub mod Ends
 pub mod Items
 pub mod Shut
 pub mod Nodes
+pub mod Sides
+pub mod NodeViews
+pub mod PlainMoves

@@ -1,12 +1,15 @@
 -- The box of a node, narrowed by the slices that fix a column, and the inequalities that bound each column there.
-use Rattle.std.specs.Prelude.{◌≡◌, ◌↔◌, ℕ, ◌+◌, ◌*◌, ◌^◌, ◌<◌, ℤ, pos, ◌≤ℤ◌, ◌<ℤ◌, Bool, true, false, IsTrue, int_lt, List, length, All, None, Some, if◌then◌else◌, slice_index_or}
+use Rattle.std.specs.Prelude.{◌≡◌, ◌↔◌, ℕ, ◌+◌, ◌*◌, ◌^◌, ◌<◌, ◌≤◌, ℤ, pos, ◌≤ℤ◌, ◌<ℤ◌, Bool, true, false, IsTrue, int_lt, List, length, All, Option, None, Some, IfSome, if◌then◌else◌, slice_index_or}
 use Rattle.exact_math.specs.Ring.{integers}
 use Rattle.exact_vectors.specs.Vectors.{negate}
 use Rattle.whole_rows.specs.declared.bounds.Bounds.{Bounds}
-use Rattle.whole_rows.specs.WholeRows.{WholeRows, LiesIn, bounds_at}
+use Rattle.whole_rows.specs.WholeRows.{WholeRow, WholeRows, LiesIn, bounds_at, span}
+use Rattle.whole_rows.specs.Ends.{sum_at, ReachesSides}
+use Rattle.whole_rows.specs.declared.ends.End.TheVariants.{Least}
 use Rattle.farkas_rows.specs.declared.path.Slice.{Slice}
 use Rattle.farkas_rows.specs.Inequalities.{at_most, at_least, unit, inequality_at}
-use Rattle.proof_tree.specs.Trees.{IsOfSize}
+use Rattle.farkas_rows.specs.Refutes.{HasForms}
+use Rattle.proof_tree.specs.Trees.{IsOfSize, IsShort}
 use Rattle.plain_slices.specs.declared.node.Source.{Source}
 use Rattle.plain_slices.specs.Shut.{IsFixedBy, LiesInNarrowed}
 
@@ -51,6 +54,7 @@ pub record IsTight (rows : WholeRows) (path done : List Slice) (column : ℕ) (b
   pub small_high : IsOfSize (2 ^ 98) bounds.high
   pub fixed : IsTrue source.is_fixed ↔ IsFixedBy (length rows.box) done column
   pub one_value : IsTrue source.is_fixed → bounds.high ≤ℤ bounds.low
+  pub as_box : source.is_fixed ≡ false → bounds ≡ bounds_at rows column
 
 -- The box of a node of this path, narrowed by the slices `done`.
 pub record IsNarrowed (rows : WholeRows) (path done : List Slice) (bounds : List Bounds) (sources : List Source) : Type 0 where
@@ -62,3 +66,19 @@ pub record IsNarrowed (rows : WholeRows) (path done : List Slice) (bounds : List
 -- the bounds of no column cross
 abbrev pub IsOpenBox : List Bounds → Type 0
 IsOpenBox bounds = All (λ (b : Bounds). b.low ≤ℤ b.high) bounds
+
+-- A path within the limits: at most two slices for each column, whose forms have a factor for each column and a weight of at most
+-- 2 to the power 96, and whose values are at most 2 to the power 98 in size.
+pub record IsPathWithin (rows : WholeRows) (path : List Slice) : Type 0 where
+  pub short : IsShort rows path
+  pub forms : HasForms (length rows.box) path
+  pub light : All (λ (slice : Slice). span slice.form rows.box ≤ 2 ^ 96) path
+  pub values : All (λ (slice : Slice). IsOfSize (2 ^ 98) slice.beta) path
+
+-- No bounds of the narrowed box cross, and within it the sums of each row and each slice reach its sides, and those of the costs
+-- a value below the best one.
+pub record IsMeetable (rows : WholeRows) (path : List Slice) (best : Option ℤ) (bounds : List Bounds) : Type 0 where
+  pub open_box : IsOpenBox bounds
+  pub rows_reach : All (λ (row : WholeRow). ReachesSides row.factors row.low row.high bounds) rows.rows
+  pub slices_reach : All (λ (slice : Slice). ReachesSides slice.form (Some slice.beta) (Some slice.beta) bounds) path
+  pub cut_reaches : IfSome best (λ value. sum_at Least rows.cost bounds <ℤ value)

@@ -37,7 +37,7 @@ IsShutBySlice rows path slice = CannotMeet rows path (at_most slice.form slice.b
 -- within the bounds and the slices that fix a column.
 abbrev pub Shut : WholeRows → List Slice → Option ℤ → Type 0
 Shut rows path best =
-  Any (λ (bounds : Bounds). bounds.high <ℤ bounds.low) rows.box
-  ⊎ (Any (IsShutByRow rows path) rows.rows
-  ⊎ (Any (IsShutBySlice rows path) path
-  ⊎ IsSomeAnd best (λ value. CannotMeet rows path (cut_inequality rows value))))
+    Any (λ (bounds : Bounds). bounds.high <ℤ bounds.low) rows.box
+    ⊎ (Any (IsShutByRow rows path) rows.rows
+    ⊎ (Any (IsShutBySlice rows path) path
+    ⊎ IsSomeAnd best (λ value. CannotMeet rows path (cut_inequality rows value))))

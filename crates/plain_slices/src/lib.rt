@@ -1,12 +1,15 @@
-//! The plain search for a point of integer rows: slices of one column after another.
+//! The search by slices of single columns: the move of a node, which always stands.
 #![tactic(auto)]
 
-mod ends;
-mod search;
+mod items;
+mod lines;
+mod moves;
 mod node;
+mod refute;
+mod side;
 mod single;
 #[cfg(test)]
 mod tests;
 
-pub use search::plain_point;
+pub use moves::plain_move;
 pub use sequence::NoMemory;

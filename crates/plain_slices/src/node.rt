@@ -1,16 +1,16 @@
 //! A node with the box that the slices of single columns leave.
-ghost use Rattle.std.specs.Prelude.{◌≡◌, ◌^◌, ◌+◌, ◌<◌, length, take, slice_set, vec_len, map, All, IfOk};
+ghost use Rattle.std.specs.Prelude.{◌≡◌, ◌^◌, ◌+◌, ◌<◌, length, take, slice_set, vec_len, map, All, IfOk, OnOk};
+ghost use Rattle.whole_rows.specs.WholeRows.{IsWithinLimits};
 ghost use Rattle.std.specs.List.{range_with_len};
 ghost use Rattle.farkas_rows.specs.Refutes.{HasForms};
 ghost use Rattle.proof_tree.specs.Trees.{IsShort, IsOfSize};
 ghost use Rattle.plain_slices.specs.Nodes.{bounds_fixed, box_source};
 
+use crate::single::single_column;
 use farkas_rows::Path;
 use sequence::NoMemory;
 use std::alloc::Global;
 use whole_rows::{Bounds, DenseRows};
-
-use crate::single::single_column;
 
 /// The numbers of the inequalities that bound a column from above and from below, and whether a slice fixes it.
 #[derive(Clone, Copy, Debug, Drop)]
@@ -28,8 +28,16 @@ impl Source {
         ensures { result ≡ source_fixed bounds self value above below }
     {
         Source {
-            above: if value < bounds.high { above } else { self.above },
-            below: if bounds.low < value { below } else { self.below },
+            above: if value < bounds.high {
+                above
+            } else {
+                self.above
+            },
+            below: if bounds.low < value {
+                below
+            } else {
+                self.below
+            },
             is_fixed: true,
         }
     }
@@ -58,6 +66,7 @@ impl<'a> Node<'a> {
         requires values { All (λ slice. IsOfSize (2 ^ 98) slice.beta) path.now }
         ensures rows { IfOk result (λ node. node.rows.now ≡ rows.now) }
         ensures path { IfOk result (λ node. node.path.now ≡ path.now) }
+        ensures limits { OnOk result (IsWithinLimits rows.now) }
         ensures narrowed { IfOk result (λ node. IsNarrowed rows.now path.now path.now node.bounds.items node.sources.items) }
     {
         let bounds = rows.bounds().to_vec(alloc)?;
@@ -120,8 +129,16 @@ fn fixed(bounds: Bounds, value: i128) -> Bounds
     ensures { result ≡ bounds_fixed bounds value }
 {
     Bounds {
-        low: if bounds.low < value { value } else { bounds.low },
-        high: if value < bounds.high { value } else { bounds.high },
+        low: if bounds.low < value {
+            value
+        } else {
+            bounds.low
+        },
+        high: if value < bounds.high {
+            value
+        } else {
+            bounds.high
+        },
     }
 }
 

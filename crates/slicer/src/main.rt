@@ -10,20 +10,11 @@ use std::{env, io};
 /// The system refused the words.
 const NO_WORDS: u8 = 10;
 
-// The words behind the program's own name. Where one of them is not UTF-8 they are no command, as no words are.
+// The words behind the program's own name. The system refuses them where one is not UTF-8, and for other reasons.
 fn words(rt: &(impl env::Env + AllocGlobal)) -> io::Result<Vec<String>> {
     let mut words = Vec::new(rt.alloc());
-    match env::args(rt) {
-        Ok(args) => {
-            for word in args.skip(1) {
-                words.push(word)?;
-            }
-        }
-        Err(error) => {
-            if error.kind() != io::ErrorKind::InvalidData {
-                return Err(error);
-            }
-        }
+    for word in env::args(rt)?.skip(1) {
+        words.push(word)?;
     }
     Ok(words)
 }

@@ -1,17 +1,19 @@
 -- From what the parts of a run answer to what the run answers.
-use Rattle.std.proofs.Common.{◌≡◌, ◌⊎◌, ⊎_elim, inl, inr, ◌≤◌, ℕ, List, Option, Some, None, refl, sym, ap, subst, ◌∙◌}
+use Rattle.std.proofs.Common.{◌≡◌, ◌⊎◌, ⊎_elim, inl, inr, ◌≤◌, ℕ, List, [], Option, Some, None, refl, sym, ap, subst, ◌∙◌, arith}
 use Rattle.std.specs.Prelude.{option_map, IfSome}
 use Rattle.std.proofs.lemmas.Option.{same_Some, none-some}
-use Rattle.desk_io.specs.Desk.{Rose, appended, AppendsSome, Same}
+use Rattle.desk_io.specs.Desk.{Fault, fault, Rose, appended, AppendsSome, Same}
+use Rattle.desk_io.specs.declared.desk.Call.TheVariants.{Take, Say}
 use Rattle.desk_io.specs.AppendLaws.{appends_all}
 use Rattle.desk_io.specs.FaultLaws.{rose_after}
 use Rattle.solve_cli.specs.declared.status.Status.{Status}
-use Rattle.solve_cli.specs.declared.status.Status.TheVariants.{Optimal, Infeasible, Words, Text, TooLong, Large, ReadFault, WriteFault, NoMemory}
+use Rattle.solve_cli.specs.declared.status.Status.TheVariants.{Optimal, Infeasible, Spent, Words, Text, TooLong, Large, ReadFault, WriteFault, NoMemory}
 use Rattle.solve_cli.specs.Words.{Solve, command_of}
 use Rattle.solve_cli.specs.Report.{report_of}
 use Rattle.solve_cli.specs.Verdict.{Verdict}
-use Rattle.solve_cli.specs.Answer.{Given, Faults, JudgesText, Reason, SaysSome, Answer, IsJudged, TakesInput, Gives, IsComplete}
-use Rattle.solve_cli.specs.Solving.{IsSaid}
+use Rattle.solve_cli.specs.Answer.{Given, Faults, JudgesText, Reason, SaysSome, Answer, IsJudged, IsCalm, KeepsFaults, FailedInSay, TakesInput, Gives, IsComplete}
+use Rattle.solve_cli.specs.Solving.{IsSaid, FailsInTake}
+use Rattle.solve_cli.proofs.VerdictLaws.{ends, decides}
 
 -- ---- the answer
 
@@ -20,6 +22,7 @@ all_said : (given : Given) (faults : Faults) (status : Status) (lines : List (Li
     → after ≡ option_map (appended (report_of lines)) before → Answer given faults before after status
 all_said given faults Optimal lines before after reason said = record { lines = lines; reason = reason; said = said }
 all_said given faults Infeasible lines before after reason said = record { lines = lines; reason = reason; said = said }
+all_said given faults Spent lines before after reason said = record { lines = lines; reason = reason; said = said }
 all_said given faults Words lines before after reason said = record { lines = lines; reason = reason; said = said }
 all_said given faults (Text fault) lines before after reason said = record { lines = lines; reason = reason; said = said }
 all_said given faults (TooLong input) lines before after reason said = record { lines = lines; reason = reason; said = said }
@@ -53,6 +56,31 @@ pub run_answers : (given : Given) (faults now : Faults) (status result : Status)
 run_answers given faults now status result lines report start before after later is_text same reason said =
     subst (λ b. Answer given now b after result) same
     (answers given faults now status result lines before after later reason (subst (λ text. IsSaid text status faults now before after result) is_text said))
+
+-- ---- the faults
+
+module _ (start between now : Faults) (status result : Status) (report : List ℕ) (before after : Option (List ℕ)) (said : IsSaid report status between now before after result) where
+  -- a status that tells no fault leaves the faults as they were
+  pub calm_said : (IsCalm status → KeepsFaults start between) → IsCalm result → KeepsFaults start now
+  calm_said kept calm =
+      ⊎_elim (λ whole. whole.2 ∙ kept (subst IsCalm whole.0 calm))
+      (⊎_elim (λ failed. absurd (subst IsCalm failed.0 calm)) (λ full. absurd (subst IsCalm full.0 calm)))
+      said.outcome
+
+  -- before the say the desk failed in takes alone
+  no_say : FailsInTake start between → now ≡ between → FailedInSay start now → ⊥
+  no_say taken same failed =
+      ⊎_elim (λ kept. let count : now.count ≡ start.count = ap (λ (f : Faults). f.count) (same ∙ kept) in omega (arith, count, failed.more))
+      (λ take. let last : Some (fault Take take.0) ≡ Some (fault Say []) = sym take.1 ∙ sym (ap (λ (f : Faults). f.last) same) ∙ failed.last in
+      let calls : Take ≡ Say = ap (λ (f : Fault). f.call) (same_Some (fault Take take.0) (fault Say []) last) in cc)
+      taken
+
+  -- where the last fault of the run is a say, the status tells it
+  pub last_said : FailsInTake start between → FailedInSay start now → result ≡ WriteFault
+  last_said taken failed =
+      ⊎_elim (λ whole. absurd (no_say taken whole.2 failed))
+      (⊎_elim (λ faulty. faulty.0) (λ full. absurd (no_say taken full.2 failed)))
+      said.outcome
 
 -- ---- the inputs
 
@@ -90,22 +118,41 @@ module _ (given : Given) (now : Faults) (status : Status) (lines : List (List �
   judged_complete = record {
     no_command = λ none calm. no_none given status lines judges none;
     text = λ command text spelled told calm. inl (gives given status lines judges command text spelled told);
+    ends = λ command text model spelled told small calm.
+        let given_lines = gives given status lines judges command text spelled told in
+        ⊎_elim (λ decided. inl decided) (λ spent. inr (inl spent)) (ends command.options text model status given_lines.0 small given_lines.1);
+    enough = λ command text model spelled told small enough calm. 
+        let given_lines = gives given status lines judges command text spelled told in
+        inl (decides command.options text model status given_lines.0 small enough given_lines.1);
   }
 
 -- and so is each where a fault rose
 faulty_complete : (given : Given) (now : Faults) (status : Status) → Rose given.faults now.count → IsComplete given now status
-faulty_complete given now status rose = record { no_command = λ none calm. absurd (calm rose); text = λ command text spelled told calm. absurd (calm rose) }
+faulty_complete given now status rose = record {
+  no_command = λ none calm. absurd (calm rose);
+  text = λ command text spelled told calm. absurd (calm rose);
+  ends = λ command text model spelled told small calm. absurd (calm rose);
+  enough = λ command text model spelled told small enough calm. absurd (calm rose);
+}
 
 pub completes : (given : Given) (now : Faults) (before after : Option (List ℕ)) (status : Status) → Answer given now before after status → IsComplete given now status
 completes given now before after Optimal answer = judged_complete given now Optimal answer.lines answer.reason
 completes given now before after Infeasible answer = judged_complete given now Infeasible answer.lines answer.reason
+completes given now before after Spent answer = judged_complete given now Spent answer.lines answer.reason
 completes given now before after (Text fault) answer = judged_complete given now (Text fault) answer.lines answer.reason
 completes given now before after (TooLong input) answer = judged_complete given now (TooLong input) answer.lines answer.reason
 completes given now before after (Large part) answer = judged_complete given now (Large part) answer.lines answer.reason
 completes given now before after Words answer = record {
   no_command = λ none calm. inl refl;
   text = λ command text spelled told calm. absurd (none-some command (sym answer.reason.0 ∙ spelled));
+  ends = λ command text model spelled told small calm. absurd (none-some command (sym answer.reason.0 ∙ spelled));
+  enough = λ command text model spelled told small enough calm. absurd (none-some command (sym answer.reason.0 ∙ spelled));
 }
 completes given now before after ReadFault answer = faulty_complete given now ReadFault answer.reason.rose
 completes given now before after WriteFault answer = faulty_complete given now WriteFault (rose_after given.faults answer.earlier.count now.count answer.later answer.rose)
-completes given now before after NoMemory answer = record { no_command = λ none calm. inr refl; text = λ command text spelled told calm. inr refl }
+completes given now before after NoMemory answer = record {
+  no_command = λ none calm. inr refl;
+  text = λ command text spelled told calm. inr refl;
+  ends = λ command text model spelled told small calm. inr (inr refl);
+  enough = λ command text model spelled told small enough calm. inr refl;
+}

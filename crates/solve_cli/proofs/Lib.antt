@@ -1,3 +1,4 @@
+pub mod CountLaws
 mod NumberSpelling
 pub mod SpellLaws
 pub mod WordLaws
@@ -6,3 +7,5 @@ pub mod TakeLaws
 pub mod AnswerLaws
 pub mod SolveLaws
 pub mod VerdictLaws
+pub mod PlainPathLaws
+pub mod FoundLaws

@@ -1,21 +1,17 @@
 -- What solving the taken bytes says of the text that was left.
-use Rattle.std.proofs.Common.{◌≡◌, ⊎_elim, ◌<◌, ◌≤◌, ◌+◌, ℕ, ℤ, pos, List, [], ◌∷◌, length, length-take, take, Option, Some, None, refl, sym, ap, ◌∙◌, subst, arith}
-use Rattle.std.specs.Prelude.{◌==◌, ◌≢◌, true, false, IfSome, IfOk, Result, Ok, Err}
-use Rattle.std.proofs.lemmas.Bool.{cases_lt, eqb-true, false≢true}
+use Rattle.std.proofs.Common.{◌≡◌, ⊎_elim, ◌<◌, ◌≤◌, ◌+◌, ℕ, List, length, length-take, take, Option, Some, None, refl, sym, ap, ◌∙◌, subst, arith}
+use Rattle.std.specs.Prelude.{IfSome, IfOk, Result, Ok, Err}
+use Rattle.std.proofs.lemmas.Bool.{cases_lt}
 use Rattle.std.proofs.lemmas.List.{take_all, length-take-le}
-use Rattle.exact_math.specs.Rational.{whole, ◌+ℚ◌, ◌≤ℚ◌}
-use Rattle.exact_math.specs.RationalOrder.{le_refl}
 use Rattle.int_model.specs.declared.part.Part.{Part}
 use Rattle.int_model.specs.declared.part.Part.TheVariants as parts
 use Rattle.int_model.specs.declared.model.Model.{Model}
-use Rattle.int_model.specs.Points.{IsPoint, IsBest, value_of}
 use Rattle.int_model.specs.Large.{IsFirstLarge}
 use Rattle.solve_cli.specs.declared.status.Input.TheVariants.{ModelText}
 use Rattle.solve_cli.specs.declared.status.Status.{Status}
-use Rattle.solve_cli.specs.declared.status.Status.TheVariants.{Optimal, Infeasible, Words, Text, TooLong, Large, ReadFault, WriteFault, NoMemory}
-use Rattle.solve_cli.specs.declared.words.Options.{Options}
-use Rattle.solve_cli.specs.declared.program.Reply.{Reply}
-use Rattle.solve_cli.specs.Words.{Solve, command_of}
+use Rattle.solve_cli.specs.declared.status.Status.TheVariants.{Optimal, Infeasible, Spent, Words, Text, TooLong, Large, ReadFault, WriteFault, NoMemory}
+use Rattle.solve_cli.specs.declared.reply.Reply.{Reply}
+use Rattle.solve_cli.specs.Words.{Options, Solve, command_of}
 use Rattle.solve_cli.specs.Limits.{most_bytes, most_taken}
 use Rattle.solve_cli.specs.Report.{report_of, IsPartOf}
 use Rattle.solve_cli.specs.Verdict.{Solves, States, Verdict}
@@ -24,39 +20,25 @@ use Rattle.solve_cli.specs.Solving.{Replies}
 
 -- ---- models
 
--- a slice of a list says whether the list has items
-pub is_filled : {X : Type 0} (xs items : List X) → items ≡ xs → (length items == 0) ≡ false → xs ≢ []
-is_filled xs items same some none = absurd (false≢true (sym some ∙ ap (λ l. length l == 0) (same ∙ none)))
-
-pub is_nothing : {X : Type 0} (xs items : List X) → items ≡ xs → (length items == 0) ≡ true → xs ≡ []
-is_nothing xs [] same none = sym same
-is_nothing xs (x ∷ items) same none = absurd (omega (arith, eqb-true (length (x ∷ items)) 0 none))
-
 -- the first large part is one of the model's
 pub first_is_part : (model : Model) (part : Part) → IsFirstLarge model part → IsPartOf model part
 first_is_part model (parts.Column j) first = first.large.0
 first_is_part model (parts.Row i) first = first.large.0
 first_is_part model parts.Objective first = tt
 
--- without an objective all points have the same value, so each is best
-pub plain_best : (model : Model) (x : List ℤ) → model.objective ≡ [] → IsPoint model x → IsBest model x
-plain_best model x plain point = record {
-  point = point;
-  least = λ y other. subst (λ items. (model.constant +ℚ value_of items x) ≤ℚ (model.constant +ℚ value_of items y)) (sym plain) (le_refl (model.constant +ℚ whole (pos 0)));
-}
-
--- what a model without an objective comes to, as the verdict on the text that states it
-pub searched : (options : Options) (text : List ℕ) (model : Model) (status : Status) (lines : List (List ℕ)) → length text ≤ most_bytes → States options text model → model.objective ≡ []
-    → Solves model status lines → Verdict options text status lines
-searched options text model Optimal lines short states plain solves = record { short = short; model = model; states = states; plain = plain; solves = solves }
-searched options text model Infeasible lines short states plain solves = record { short = short; model = model; states = states; plain = plain; solves = solves }
-searched options text model (Large part) lines short states plain solves = record { short = short; model = model; states = states; plain = plain; solves = solves }
-searched options text model Words lines short states plain solves = absurd solves
-searched options text model (Text fault) lines short states plain solves = absurd solves
-searched options text model (TooLong input) lines short states plain solves = absurd solves
-searched options text model ReadFault lines short states plain solves = absurd solves
-searched options text model WriteFault lines short states plain solves = absurd solves
-searched options text model NoMemory lines short states plain solves = absurd solves
+-- what a model comes to, as the verdict on the text that states it
+pub searched : (options : Options) (text : List ℕ) (model : Model) (status : Status) (lines : List (List ℕ)) → length text ≤ most_bytes → States options text model
+    → Solves options.nodes model status lines → Verdict options text status lines
+searched options text model Optimal lines short states solves = record { short = short; model = model; states = states; solves = solves }
+searched options text model Infeasible lines short states solves = record { short = short; model = model; states = states; solves = solves }
+searched options text model Spent lines short states solves = record { short = short; model = model; states = states; solves = solves }
+searched options text model (Large part) lines short states solves = record { short = short; model = model; states = states; solves = solves }
+searched options text model Words lines short states solves = absurd solves
+searched options text model (Text fault) lines short states solves = absurd solves
+searched options text model (TooLong input) lines short states solves = absurd solves
+searched options text model ReadFault lines short states solves = absurd solves
+searched options text model WriteFault lines short states solves = absurd solves
+searched options text model NoMemory lines short states solves = absurd solves
 
 -- ---- the bytes that were taken
 
@@ -73,11 +55,12 @@ long_text limit n text long = omega (arith, length-take n text)
 -- the verdict on the bytes that were taken is that on the text
 pub verdict_taken : (options : Options) (text : List ℕ) (status : Status) (lines : List (List ℕ)) → Verdict options (take most_taken text) status lines → Verdict options text status lines
 unfolding most_taken
-verdict_taken options text Optimal lines v = subst (λ t. Verdict options t Optimal lines) (whole_text 16777216 text v.short) v
-verdict_taken options text Infeasible lines v = subst (λ t. Verdict options t Infeasible lines) (whole_text 16777216 text v.short) v
-verdict_taken options text (Large part) lines v = subst (λ t. Verdict options t (Large part) lines) (whole_text 16777216 text v.short) v
-verdict_taken options text (Text fault) lines v = subst (λ t. Verdict options t (Text fault) lines) (whole_text 16777216 text v.short) v
-verdict_taken options text (TooLong ModelText) lines v = record { long = long_text 16777216 16777217 text v.long; report = v.report }
+verdict_taken options text Optimal lines v = subst (λ t. Verdict options t Optimal lines) (whole_text most_bytes text v.short) v
+verdict_taken options text Infeasible lines v = subst (λ t. Verdict options t Infeasible lines) (whole_text most_bytes text v.short) v
+verdict_taken options text Spent lines v = subst (λ t. Verdict options t Spent lines) (whole_text most_bytes text v.short) v
+verdict_taken options text (Large part) lines v = subst (λ t. Verdict options t (Large part) lines) (whole_text most_bytes text v.short) v
+verdict_taken options text (Text fault) lines v = subst (λ t. Verdict options t (Text fault) lines) (whole_text most_bytes text v.short) v
+verdict_taken options text (TooLong ModelText) lines v = record { long = long_text most_bytes most_taken text v.long; report = v.report }
 verdict_taken options text Words lines v = absurd v
 verdict_taken options text ReadFault lines v = absurd v
 verdict_taken options text WriteFault lines v = absurd v
@@ -108,6 +91,7 @@ module _ (given : Given) (command : Solve) (taken : List ℕ) (spelled : command
   verdict_reason : (faults : Faults) (status : Status) (lines : List (List ℕ)) → Verdict command.options taken status lines → Reason given faults status lines
   verdict_reason faults Optimal lines verdict = judges Optimal lines verdict
   verdict_reason faults Infeasible lines verdict = judges Infeasible lines verdict
+  verdict_reason faults Spent lines verdict = judges Spent lines verdict
   verdict_reason faults (Text fault) lines verdict = judges (Text fault) lines verdict
   verdict_reason faults (TooLong input) lines verdict = judges (TooLong input) lines verdict
   verdict_reason faults (Large part) lines verdict = judges (Large part) lines verdict

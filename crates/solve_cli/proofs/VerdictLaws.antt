@@ -1,29 +1,36 @@
--- A text gives one status at most.
-use Rattle.std.proofs.Common.{◌≡◌, ◌⊎◌, ⊎_elim, inl, inr, ℕ, ◌≤◌, ◌<◌, List, [], length, refl, sym, ap, subst, ◌∙◌, arith}
+-- A text gives one status at most, unless the budget is spent, and which ones it may give.
+use Rattle.std.proofs.Common.{◌≡◌, ◌⊎◌, ⊎_elim, inl, inr, ℕ, ℤ, ◌≤◌, ◌<◌, List, [], length, refl, sym, ap, subst, ◌∙◌, arith}
 use Rattle.std.specs.Prelude.{Result, Ok, Err}
 use Rattle.int_model.specs.declared.part.Part.{Part}
 use Rattle.int_model.specs.declared.model.Model.{Model}
-use Rattle.int_model.proofs.FirstLargeLaws.{first_large_is_one}
+use Rattle.int_model.specs.Points.{IsPoint}
+use Rattle.int_model.specs.Large.{IsFirstLarge, HasNoLargePart}
+use Rattle.int_model.specs.FirstLargeLaws.{first_large_is_one}
 use Rattle.mps_model.specs.declared.fault.TextFault.{TextFault}
 use Rattle.mps_model.specs.Meaning.{meaning}
 use Rattle.solve_cli.specs.declared.status.Input.TheVariants.{ModelText}
 use Rattle.solve_cli.specs.declared.status.Status.{Status}
-use Rattle.solve_cli.specs.declared.status.Status.TheVariants.{Optimal, Infeasible, Words, Text, TooLong, Large, ReadFault, WriteFault, NoMemory}
-use Rattle.solve_cli.specs.declared.words.Options.{Options}
+use Rattle.solve_cli.specs.declared.status.Status.TheVariants.{Optimal, Infeasible, Spent, Words, Text, TooLong, Large, ReadFault, WriteFault, NoMemory}
+use Rattle.solve_cli.specs.Words.{Options}
 use Rattle.solve_cli.specs.Limits.{most_bytes}
-use Rattle.solve_cli.specs.Verdict.{FindsBest, FindsNone, FindsLarge, Solves, States, StatesObjective, IsSearched, IsRefused, IsTooLong, unbuilt, Verdict}
+use Rattle.solve_cli.specs.Verdict.{enough_nodes, Solves, States, IsSearched, IsRefused, IsTooLong, Verdict}
+use Rattle.solve_cli.specs.Answer.{IsDecided, StatesSmall, SameUnlessSpent}
 
 -- ---- models
 
--- what a model comes to is one of three
-module _ (model : Model) where
-  abbrev Solved : Status → List (List ℕ) → Type 0
-  Solved status lines = ((status ≡ Optimal) × FindsBest model lines) ⊎ (((status ≡ Infeasible) × FindsNone model lines) ⊎ ((part : Part) × (status ≡ Large part) × FindsLarge model part lines))
+-- what a model comes to: it is decided or the budget spent, or it has a first large part
+module _ (nodes : ℕ) (model : Model) where
+  abbrev IsTried : Status → Type 0
+  IsTried status = HasNoLargePart model × (IsDecided model status ⊎ (status ≡ Spent))
 
-  solved : (status : Status) (lines : List (List ℕ)) → Solves model status lines → Solved status lines
-  solved Optimal lines s = inl (refl, s)
-  solved Infeasible lines s = inr (inl (refl, s))
-  solved (Large part) lines s = inr (inr (part, refl, s))
+  abbrev IsLarge : Status → Type 0
+  IsLarge status = (part : Part) × (status ≡ Large part) × IsFirstLarge model part
+
+  solved : (status : Status) (lines : List (List ℕ)) → Solves nodes model status lines → IsTried status ⊎ IsLarge status
+  solved Optimal lines s = inl (s.small, inl (inl (refl, (s.point, s.best.point))))
+  solved Infeasible lines s = inl (s.small, inl (inr (refl, s.none)))
+  solved Spent lines s = inl (s.small, inr refl)
+  solved (Large part) lines s = inr (part, refl, s.first)
   solved Words lines s = absurd s
   solved (Text fault) lines s = absurd s
   solved (TooLong input) lines s = absurd s
@@ -31,19 +38,32 @@ module _ (model : Model) where
   solved WriteFault lines s = absurd s
   solved NoMemory lines s = absurd s
 
-  one_solve : (one other : Status) (lines more : List (List ℕ)) → Solved one lines → Solved other more → one ≡ other
+  one_decision : (one other : Status) → IsDecided model one → IsDecided model other → one ≡ other
+  one_decision one other a b =
+      ⊎_elim (λ best. ⊎_elim (λ same. best.0 ∙ sym same.0) (λ none. absurd (none.1 best.1.0 best.1.1)) b)
+      (λ none. ⊎_elim (λ best. absurd (none.1 best.1.0 best.1.1)) (λ same. none.0 ∙ sym same.0) b) a
+
+  one_try : (one other : Status) → IsTried one → IsTried other → SameUnlessSpent one other
+  one_try one other a b =
+      ⊎_elim (λ first. ⊎_elim (λ second. inl (one_decision one other first second)) (λ spent. inr (inr spent)) b.1) (λ spent. inr (inl spent)) a.1
+
+  one_solve : (one other : Status) (lines more : List (List ℕ)) → Solves nodes model one lines → Solves nodes model other more → SameUnlessSpent one other
   one_solve one other lines more a b =
       ⊎_elim
-      (λ best. ⊎_elim (λ same. best.0 ∙ sym same.0)
-      (λ r. ⊎_elim (λ none. absurd (none.1.none best.1.point best.1.best.point)) (λ large. absurd (best.1.small large.0 large.2.first.large)) r) b)
-      (λ l. ⊎_elim
-      (λ none. ⊎_elim (λ best. absurd (none.1.none best.1.point best.1.best.point))
-      (λ r. ⊎_elim (λ same. none.0 ∙ sym same.0) (λ large. absurd (none.1.small large.0 large.2.first.large)) r) b)
-      (λ large. ⊎_elim (λ best. absurd (best.1.small large.0 large.2.first.large))
-      (λ r. ⊎_elim (λ none. absurd (none.1.small large.0 large.2.first.large))
-      (λ same. large.1 ∙ ap Large (first_large_is_one model large.0 same.0 large.2.first same.2.first) ∙ sym same.1) r) b)
-      l)
-      a
+      (λ first. ⊎_elim (λ second. one_try one other first second) (λ large. absurd (first.0 large.0 large.2.large)) (solved other more b))
+      (λ large. ⊎_elim (λ second. absurd (second.0 large.0 large.2.large))
+      (λ same. inl (large.1 ∙ ap Large (first_large_is_one model large.0 same.0 large.2 same.2) ∙ sym same.1)) (solved other more b))
+      (solved one lines a)
+
+  -- a model without a large part is decided, or the budget is spent
+  ends_model : (status : Status) (lines : List (List ℕ)) → HasNoLargePart model → Solves nodes model status lines → IsDecided model status ⊎ (status ≡ Spent)
+  ends_model status lines small s = ⊎_elim (λ tried. tried.1) (λ large. absurd (small large.0 large.2.large)) (solved status lines s)
+
+-- with enough nodes the budget is not spent
+not_spent : (nodes : ℕ) (model : Model) (status : Status) (lines : List (List ℕ)) → enough_nodes model ≤ nodes → Solves nodes model status lines → status ≡ Spent → ⊥
+not_spent nodes model status lines enough s spent =
+    let found : Solves nodes model Spent lines = subst (λ one. Solves nodes model one lines) spent s in
+    absurd (omega (arith, enough, found.few))
 
 -- ---- texts
 
@@ -65,6 +85,7 @@ module _ (options : Options) (text : List ℕ) where
   judged : (status : Status) (lines : List (List ℕ)) → Verdict options text status lines → Judged status lines
   judged Optimal lines v = inr (inr v)
   judged Infeasible lines v = inr (inr v)
+  judged Spent lines v = inr (inr v)
   judged (Large part) lines v = inr (inr v)
   judged (Text fault) lines v = inr (inl (fault, refl, v))
   judged (TooLong ModelText) lines v = inl (refl, v)
@@ -76,46 +97,40 @@ module _ (options : Options) (text : List ℕ) where
   abbrev found : Result Model TextFault
   found = meaning options.layout options.upper text
 
-  one_model : (one other : Model) → States options text one → States options text other → one ≡ other
-  one_model one other a b = same_model found one other a b
-
-  abbrev Cause : TextFault → Type 0
-  Cause fault = (found ≡ Err fault) ⊎ (StatesObjective options text × (fault ≡ unbuilt))
-
-  one_fault : (one other : TextFault) → Cause one → Cause other → one ≡ other
-  one_fault one other a b =
-      ⊎_elim
-      (λ first. ⊎_elim (λ second. same_fault found one other first second) (λ objective. never found objective.0.model one objective.0.states first) b)
-      (λ objective. ⊎_elim (λ second. never found objective.0.model other objective.0.states second) (λ same. objective.1 ∙ sym same.1) b)
-      a
-
-  -- a text with a fault or an objective is not searched
-  not_both : {P : Type 0} (fault : TextFault) (model : Model) → Cause fault → States options text model → model.objective ≡ [] → P
-  not_both fault model cause states plain =
-      ⊎_elim (λ first. never found model fault states first)
-      (λ objective. absurd (objective.0.objective (ap (λ (m : Model). m.objective) (one_model objective.0.model model objective.0.states states) ∙ plain)))
-      cause
-
-  one_search : (one other : Status) (lines more : List (List ℕ)) → IsSearched options text one lines → IsSearched options text other more → one ≡ other
+  one_search : (one other : Status) (lines more : List (List ℕ)) → IsSearched options text one lines → IsSearched options text other more → SameUnlessSpent one other
   one_search one other lines more a b =
-      one_solve b.model one other lines more
-      (solved b.model one lines (subst (λ m. Solves m one lines) (one_model a.model b.model a.states b.states) a.solves))
-      (solved b.model other more b.solves)
+      one_solve options.nodes b.model one other lines more
+      (subst (λ m. Solves options.nodes m one lines) (same_model found a.model b.model a.states b.states) a.solves) b.solves
 
   not_long : {P : Type 0} → most_bytes < length text → length text ≤ most_bytes → P
   not_long long short = absurd (omega arith)
 
-  pub one_status : (one other : Status) (lines more : List (List ℕ)) → Verdict options text one lines → Verdict options text other more → one ≡ other
+  pub one_status : (one other : Status) (lines more : List (List ℕ)) → Verdict options text one lines → Verdict options text other more → SameUnlessSpent one other
   one_status one other lines more a b =
       ⊎_elim
-      (λ long. ⊎_elim (λ same. long.0 ∙ sym same.0)
+      (λ long. ⊎_elim (λ same. inl (long.0 ∙ sym same.0))
       (λ r. ⊎_elim (λ refused. not_long long.1.long refused.2.short) (λ searched. not_long long.1.long searched.short) r) (judged other more b))
       (λ l. ⊎_elim
       (λ refused. ⊎_elim (λ long. not_long long.1.long refused.2.short)
-      (λ r. ⊎_elim (λ same. refused.1 ∙ ap Text (one_fault refused.0 same.0 refused.2.cause same.2.cause) ∙ sym same.1)
-      (λ searched. not_both refused.0 searched.model refused.2.cause searched.states searched.plain) r) (judged other more b))
+      (λ r. ⊎_elim (λ same. inl (refused.1 ∙ ap Text (same_fault found refused.0 same.0 refused.2.first same.2.first) ∙ sym same.1))
+      (λ searched. never found searched.model refused.0 searched.states refused.2.first) r) (judged other more b))
       (λ searched. ⊎_elim (λ long. not_long long.1.long searched.short)
-      (λ r. ⊎_elim (λ refused. not_both refused.0 searched.model refused.2.cause searched.states searched.plain)
+      (λ r. ⊎_elim (λ refused. never found searched.model refused.0 searched.states refused.2.first)
       (λ same. one_search one other lines more searched same) r) (judged other more b))
       l)
       (judged one lines a)
+
+  -- a text that states a model without a large part is searched
+  search_of : (model : Model) (status : Status) (lines : List (List ℕ)) → StatesSmall options text model → Verdict options text status lines → Solves options.nodes model status lines
+  search_of model status lines small v =
+      ⊎_elim (λ long. not_long long.1.long small.short)
+      (λ r. ⊎_elim (λ refused. never found model refused.0 small.states refused.2.first)
+      (λ searched. subst (λ m. Solves options.nodes m status lines) (same_model found searched.model model searched.states small.states) searched.solves) r)
+      (judged status lines v)
+
+  pub ends : (model : Model) (status : Status) (lines : List (List ℕ)) → StatesSmall options text model → Verdict options text status lines → IsDecided model status ⊎ (status ≡ Spent)
+  ends model status lines small v = ends_model options.nodes model status lines small.small (search_of model status lines small v)
+
+  pub decides : (model : Model) (status : Status) (lines : List (List ℕ)) → StatesSmall options text model → enough_nodes model ≤ options.nodes → Verdict options text status lines → IsDecided model status
+  decides model status lines small enough v =
+      ⊎_elim (λ decided. decided) (λ spent. absurd (not_spent options.nodes model status lines enough (search_of model status lines small v) spent)) (ends model status lines small v)

@@ -1,13 +1,13 @@
 -- Options that are read one after another.
-use Rattle.std.proofs.Common.{◌≡◌, ◌≢◌, ◌≤◌, ◌-◌, ℕ, ℤ, Bool, true, false, cond, List, [], ◌∷◌, length, get_or, map, take, drop, Option, Some, None, refl, sym, ap, ◌∙◌, subst, arith, length-drop}
+use Rattle.std.proofs.Common.{◌≡◌, ◌≢◌, ◌≤◌, ◌-◌, ℕ, pos, Bool, true, false, cond, List, [], ◌∷◌, length, get_or, map, take, drop, Option, Some, None, refl, sym, ap, ◌∙◌, subst, arith, length-drop}
 use Rattle.std.specs.Prelude.{◌==◌, option_map, option_and_then, codes, bytes_eq}
 use Rattle.std.proofs.lemmas.Bool.{eqb-true}
 use Rattle.std.proofs.lemmas.List.{drop-map, take-map, take_all, length-map}
 use Rattle.std.proofs.lemmas.Option.{same_Some}
 use Rattle.solve_cli.specs.declared.words.SolveOption.{SolveOption}
-use Rattle.solve_cli.specs.declared.words.SolveOption.TheVariants.{Fixed, Upper}
-use Rattle.solve_cli.specs.declared.words.Options.{Options}
-use Rattle.solve_cli.specs.Words.{bound_of, first_option_of, words_in, options_of, with_option, settled, no_options, settled_options, are_file_names, named, solve_of}
+use Rattle.solve_cli.specs.declared.words.SolveOption.TheVariants.{Fixed, Upper, Nodes}
+use Rattle.solve_cli.specs.declared.words.Chosen.{Chosen}
+use Rattle.solve_cli.specs.Words.{number_within, most_upper, most_nodes, valued_option_of, first_option_of, words_in, options_of, with_option, settled, none_chosen, chosen_options, settled_options, are_file_names, named, solve_of}
 
 -- an option in front of what words spell behind it
 abbrev before : SolveOption → List (List ℕ) → Option (List SolveOption)
@@ -18,6 +18,17 @@ pub record Begins (option : SolveOption) (words : List (List ℕ)) : Type 0 wher
   pub within : words_in option ≤ length words
   pub spelled : options_of words ≡ option_map (λ options. option ∷ options) (options_of (drop (words_in option) words))
 
+-- an option of two words
+two_words : (word next : List ℕ) (option : SolveOption) → valued_option_of word next ≡ Some option → words_in option ≡ 2
+two_words word next option e = by (bytes_eq word (codes "--upper")) (bytes_eq word (codes "--nodes")) (number_within 0 most_upper next) (number_within 1 most_nodes next) e
+  where
+    by : (upper nodes : Bool) (bound count : Option ℕ) → cond upper (option_map (λ bound. Upper (pos bound)) bound) (cond nodes (option_map Nodes count) None) ≡ Some option → words_in option ≡ 2
+    by true nodes (Some bound) count e = subst (λ o. words_in o ≡ 2) (same_Some (Upper (pos bound)) option e) refl
+    by true nodes None count e = absurd cc
+    by false true bound (Some count) e = subst (λ o. words_in o ≡ 2) (same_Some (Nodes count) option e) refl
+    by false true bound None e = absurd cc
+    by false false bound count e = absurd cc
+
 one_begins : (word : List ℕ) (fixed : Bool) (option : SolveOption) → cond fixed (Some Fixed) None ≡ Some option
     → (words_in option ≤ 1) × (cond fixed (Some (Fixed ∷ [])) None ≡ before option (word ∷ []))
 unfolding options_of
@@ -25,28 +36,27 @@ one_begins word true option e = subst (λ o. (words_in o ≤ 1) × (Some (Fixed 
 one_begins word false option e = absurd cc
 
 module _ (word next : List ℕ) (words : List (List ℕ)) where
-  abbrev first : Bool → Bool → Option ℤ → Option SolveOption
-  first fixed upper bound = cond fixed (Some Fixed) (cond upper (option_map Upper bound) None)
-
-  abbrev all : Bool → Bool → Option ℤ → Option (List SolveOption)
-  all fixed upper bound =
+  abbrev all : Bool → Option SolveOption → Option (List SolveOption)
+  all fixed valued =
       cond fixed (option_map (λ options. Fixed ∷ options) (options_of (next ∷ words)))
-      (cond upper (option_and_then (λ bound. option_map (λ options. Upper bound ∷ options) (options_of words)) bound) None)
+      (option_and_then (λ option. option_map (λ options. option ∷ options) (options_of words)) valued)
 
-  abbrev Follows : Bool → Bool → Option ℤ → SolveOption → Type 0
-  Follows fixed upper bound option = (words_in option ≤ length (word ∷ next ∷ words)) × (all fixed upper bound ≡ before option (word ∷ next ∷ words))
+  abbrev Follows : Bool → Option SolveOption → SolveOption → Type 0
+  Follows fixed valued option = (words_in option ≤ length (word ∷ next ∷ words)) × (all fixed valued ≡ before option (word ∷ next ∷ words))
 
-  begins : (fixed upper : Bool) (bound : Option ℤ) (option : SolveOption) → first fixed upper bound ≡ Some option → Follows fixed upper bound option
-  begins true upper bound option e = subst (Follows true upper bound) (same_Some Fixed option e) (omega arith, refl)
-  begins false true (Some bound) option e = subst (Follows false true (Some bound)) (same_Some (Upper bound) option e) (omega arith, refl)
-  begins false true None option e = absurd cc
-  begins false false bound option e = absurd cc
+  begins : (fixed : Bool) (valued : Option SolveOption) (option : SolveOption) → ((o : SolveOption) → valued ≡ Some o → words_in o ≡ 2)
+      → cond fixed (Some Fixed) valued ≡ Some option → Follows fixed valued option
+  begins true valued option two e = subst (Follows true valued) (same_Some Fixed option e) (omega arith, refl)
+  begins false (Some valued) option two e =
+      let count : words_in valued ≡ 2 = two valued refl in
+      subst (Follows false (Some valued)) (same_Some valued option e)
+      (omega (arith, count), ap (λ n. option_map (λ options. valued ∷ options) (options_of (drop n (word ∷ next ∷ words)))) (sym count))
+  begins false None option two e = absurd cc
 
-  none : (fixed upper : Bool) (bound : Option ℤ) → first fixed upper bound ≡ None → all fixed upper bound ≡ None
-  none true upper bound e = absurd cc
-  none false true (Some bound) e = absurd cc
-  none false true None e = refl
-  none false false bound e = refl
+  none : (fixed : Bool) (valued : Option SolveOption) → cond fixed (Some Fixed) valued ≡ None → all fixed valued ≡ None
+  none true valued e = absurd cc
+  none false (Some valued) e = absurd cc
+  none false None e = refl
 
 -- the first option, with what the words behind it spell
 pub first_begins : (words : List (List ℕ)) (option : SolveOption) → first_option_of words ≡ Some option → Begins option words
@@ -56,7 +66,7 @@ first_begins (word ∷ []) option e =
     let parts = one_begins word (bytes_eq word (codes "--fixed")) option e in
     record { within = parts.0; spelled = parts.1 }
 first_begins (word ∷ next ∷ words) option e =
-    let parts = begins word next words (bytes_eq word (codes "--fixed")) (bytes_eq word (codes "--upper")) (bound_of next) option e in
+    let parts = begins word next words (bytes_eq word (codes "--fixed")) (valued_option_of word next) option (two_words word next) e in
     record { within = parts.0; spelled = parts.1 }
 
 one_none : (fixed : Bool) → cond fixed (Some Fixed) None ≡ None → cond fixed (Some (Fixed ∷ [])) None ≡ None
@@ -68,16 +78,16 @@ pub first_none : (words : List (List ℕ)) → words ≢ [] → first_option_of 
 unfolding options_of
 first_none [] some e = absurd (some refl)
 first_none (word ∷ []) some e = one_none (bytes_eq word (codes "--fixed")) e
-first_none (word ∷ next ∷ words) some e = none word next words (bytes_eq word (codes "--fixed")) (bytes_eq word (codes "--upper")) (bound_of next) e
+first_none (word ∷ next ∷ words) some e = none word next words (bytes_eq word (codes "--fixed")) (valued_option_of word next) e
 
 -- one more option settled
-pub settled_more : (given more : Options) (option : SolveOption) (rest : Option (List SolveOption)) → with_option given option ≡ Some more
+pub settled_more : (given more : Chosen) (option : SolveOption) (rest : Option (List SolveOption)) → with_option given option ≡ Some more
     → option_and_then (settled given) (option_map (λ options. option ∷ options) rest) ≡ option_and_then (settled more) rest
 settled_more given more option None e = refl
 settled_more given more option (Some options) e = rw e refl
 
 -- an option that is given already settles nothing
-pub settled_twice : (given : Options) (option : SolveOption) (rest : Option (List SolveOption)) → with_option given option ≡ None
+pub settled_twice : (given : Chosen) (option : SolveOption) (rest : Option (List SolveOption)) → with_option given option ≡ None
     → option_and_then (settled given) (option_map (λ options. option ∷ options) rest) ≡ None
 settled_twice given option None e = refl
 settled_twice given option (Some options) e = rw e refl
@@ -91,9 +101,9 @@ pub map_some : {X Y : Type 0} (f : X → Y) (xs : List X) → (length xs == 0) �
 map_some f [] e = absurd cc
 map_some f (x ∷ xs) e = λ h. absurd cc
 
-module _ {X : Type 0} (text : X → List ℕ) (rest : List X) (given : Options) (all : Option Options) (so_far : option_and_then (settled given) (options_of (map text rest)) ≡ all) where
+module _ {X : Type 0} (text : X → List ℕ) (rest : List X) (given : Chosen) (all : Option Chosen) (so_far : option_and_then (settled given) (options_of (map text rest)) ≡ all) where
   -- one option more was read
-  pub read_more : (next : List X) (more : Options) (option : SolveOption) (k : ℕ) → Some option ≡ first_option_of (map text rest) → Some more ≡ with_option given option
+  pub read_more : (next : List X) (more : Chosen) (option : SolveOption) (k : ℕ) → Some option ≡ first_option_of (map text rest) → Some more ≡ with_option given option
       → k ≡ words_in option → next ≡ take (length rest - k) (drop k rest) → option_and_then (settled more) (options_of (map text next)) ≡ all
   read_more next more option k first settles count left =
       let next_is : map text next ≡ drop (words_in option) (map text rest) =
@@ -135,7 +145,7 @@ module _ {X : Type 0} (text : X → List ℕ) (words front names : List X) (k : 
     (count : k ≡ length words - 2) (in_front : front ≡ take k words) (behind : names ≡ drop k words) (two : length names ≡ 2)
     (is_model : model ≡ get_or names 0 model) (is_proof : proof ≡ get_or names 1 proof) where
   -- what the words in front settle, with the two names
-  solve_is : solve_of (map text words) ≡ option_and_then (named (text model ∷ text proof ∷ [])) (option_and_then (settled no_options) (options_of (map text front)))
+  solve_is : solve_of (map text words) ≡ option_and_then (named (text model ∷ text proof ∷ [])) (option_and_then (settled none_chosen) (options_of (map text front)))
   solve_is =
       let n : length (map text words) - 2 ≡ k = ap (λ m. m - 2) (length-map words text) ∙ sym count in
       let last : drop (length (map text words) - 2) (map text words) ≡ text model ∷ text proof ∷ [] =
@@ -147,15 +157,15 @@ module _ {X : Type 0} (text : X → List ℕ) (words front names : List X) (k : 
 
   -- the names are no two names of files
   pub not_named : are_file_names (text model) (text proof) ≡ false → solve_of (map text words) ≡ None
-  not_named other = solve_is ∙ by (option_and_then (settled no_options) (options_of (map text front)))
+  not_named other = solve_is ∙ by (option_and_then (settled none_chosen) (options_of (map text front)))
     where
-      by : (options : Option Options) → option_and_then (named (text model ∷ text proof ∷ [])) options ≡ None
+      by : (chosen : Option Chosen) → option_and_then (named (text model ∷ text proof ∷ [])) chosen ≡ None
       by None = refl
-      by (Some options) = rw other refl
+      by (Some chosen) = rw other refl
 
   -- the command
-  pub is_solve : (options : Options) (model_name proof_name : List ℕ) → are_file_names (text model) (text proof) ≡ true
-      → Some options ≡ option_and_then (settled no_options) (options_of (map text front)) → model_name ≡ text model → proof_name ≡ text proof
-      → solve_of (map text words) ≡ Some (record { options = options; model = model_name; proof = proof_name })
-  is_solve options model_name proof_name files settles same_model same_proof =
+  pub is_solve : (chosen : Chosen) (model_name proof_name : List ℕ) → are_file_names (text model) (text proof) ≡ true
+      → Some chosen ≡ option_and_then (settled none_chosen) (options_of (map text front)) → model_name ≡ text model → proof_name ≡ text proof
+      → solve_of (map text words) ≡ Some (record { options = chosen_options chosen; model = model_name; proof = proof_name })
+  is_solve chosen model_name proof_name files settles same_model same_proof =
       solve_is ∙ ap (option_and_then (named (text model ∷ text proof ∷ []))) (sym settles) ∙ rw (files, same_model, same_proof) refl

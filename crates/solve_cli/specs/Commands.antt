@@ -4,10 +4,10 @@ use Rattle.solve_cli.specs.declared.words.Command.{Command}
 use Rattle.solve_cli.specs.declared.words.Command.TheVariants as commands
 use Rattle.solve_cli.specs.declared.words.WordsStop.{WordsStop}
 use Rattle.solve_cli.specs.declared.words.WordsStop.TheVariants as stops
-use Rattle.solve_cli.specs.Words.{Solve}
+use Rattle.solve_cli.specs.Words.{Solve, options}
 
 abbrev pub solve_view : Command → Solve
-solve_view (commands.Solve options model proof) = record { options = options; model = model; proof = proof }
+solve_view (commands.Solve layout upper nodes model proof) = record { options = options layout upper nodes; model = model; proof = proof }
 
 -- the command that is there, or Words where there is none, unless memory ran out
 abbrev pub GivesCommand : Result Command WordsStop → Option Solve → Type 0

@@ -7,3 +7,4 @@ pub mod Limits
 pub mod Verdict
 pub mod Answer
 pub mod Solving
+pub mod PlainPaths

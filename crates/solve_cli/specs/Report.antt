@@ -27,9 +27,21 @@ point_lines (column ∷ columns) [] = []
 point_lines (column ∷ columns) (value ∷ values) =
     (codes "POINT " ++ signed_decimal value ++ 32 ∷ column.name) ∷ point_lines columns values
 
--- a best point and its value
-abbrev pub optimal_lines : ℚ → List Column → List ℤ → List (List ℕ)
-optimal_lines value columns point = codes "OPTIMAL" ∷ (codes "VALUE " ++ fraction_text value) ∷ point_lines columns point
+-- a point and its value
+abbrev pub best_lines : ℚ → List Column → List ℤ → List (List ℕ)
+best_lines value columns point = (codes "VALUE " ++ fraction_text value) ∷ point_lines columns point
+
+-- how many nodes were worked, and how many of them were split by single columns
+abbrev pub count_lines : ℕ → ℕ → List (List ℕ)
+count_lines nodes plain = (codes "NODES " ++ decimal nodes) ∷ (codes "PLAIN " ++ decimal plain) ∷ []
+
+-- a report without a point
+abbrev pub bare_lines : List ℕ → ℕ → ℕ → List (List ℕ)
+bare_lines head nodes plain = head ∷ count_lines nodes plain
+
+-- a report with a point and its value
+abbrev pub found_lines : List ℕ → ℚ → List Column → List ℤ → ℕ → ℕ → List (List ℕ)
+found_lines head value columns point nodes plain = head ∷ (best_lines value columns point ++ count_lines nodes plain)
 
 -- the name of column number j
 abbrev pub column_name : Model → ℕ → List ℕ

@@ -1,15 +1,12 @@
 -- The command that a list of words spells.
-use Rattle.std.specs.Prelude.{◌≡◌, ◌++◌, ◌≤ℤ◌, All, flat_map, ℕ, Bool, true, not, ◌&&◌, ◌||◌, nat_le, ◌-◌, int_lt, ◌==◌, if◌then◌else◌, List, [], ◌∷◌, length, take, drop, slice_index, ℤ, pos, Option, Some, None, Result, Ok, Err, option_map, option_and_then, codes, bytes_eq}
+use Rattle.std.specs.Prelude.{◌≡◌, ◌++◌, ◌≤◌, ◌≤ℤ◌, All, flat_map, ℕ, Bool, true, not, ◌&&◌, ◌||◌, nat_le, ◌-◌, ◌==◌, if◌then◌else◌, List, [], ◌∷◌, length, take, drop, slice_index, ℤ, pos, Option, Some, None, option_map, option_and_then, unwrap_or, codes, bytes_eq, decimal}
 use Rattle.std.specs.Fmt.{signed_decimal}
-use Rattle.exact_math.specs.Rational.{ℚ}
-use Rattle.mps_fields.specs.declared.numbers.NumberFault.{NumberFault}
-use Rattle.mps_fields.specs.Decimal.{is_digits}
-use Rattle.mps_fields.specs.Reading.{number_of}
+use Rattle.mps_fields.specs.Decimal.{is_digits, digits_value}
 use Rattle.mps_model.specs.declared.layout.Layout.{Layout}
 use Rattle.mps_model.specs.declared.layout.Layout.TheVariants.{Free, Fixed as fixed_layout}
 use Rattle.solve_cli.specs.declared.words.SolveOption.{SolveOption}
-use Rattle.solve_cli.specs.declared.words.SolveOption.TheVariants.{Fixed, Upper}
-use Rattle.solve_cli.specs.declared.words.Options.{Options}
+use Rattle.solve_cli.specs.declared.words.SolveOption.TheVariants.{Fixed, Upper, Nodes}
+use Rattle.solve_cli.specs.declared.words.Chosen.{Chosen}
 
 -- the name of a file has 1 to 255 bytes, and does not begin with a dash (the byte 45)
 abbrev pub is_file_name : List ℕ → Bool
@@ -19,27 +16,36 @@ is_file_name word = nat_le 1 (length word) && nat_le (length word) 255 && not (s
 abbrev pub is_plain_number : List ℕ → Bool
 is_plain_number word = is_digits word && ((length word == 1) || not (slice_index word 0 == 48))
 
--- a number of at most 2^62
-abbrev pub within_bound : Result ℚ NumberFault → Option ℤ
-within_bound (Ok q) = if int_lt (pos 4611686018427387904) q.num then None else Some q.num
-within_bound (Err fault) = None
+-- the whole number from low to high that a word spells in its shortest decimal digits
+abbrev pub number_within : ℕ → ℕ → List ℕ → Option ℕ
+number_within low high word =
+    if is_plain_number word && (nat_le low (digits_value word) && nat_le (digits_value word) high) then Some (digits_value word) else None
 
--- the upper bound that a word spells
-abbrev pub bound_of : List ℕ → Option ℤ
-bound_of word = if is_plain_number word then within_bound (number_of word) else None
+-- the greatest upper bound that may be handed in, 2^62
+abbrev pub most_upper : ℕ
+most_upper = 4611686018427387904
 
--- the option that words begin with: `--fixed`, or `--upper` with its number in the next word
+-- the greatest budget of nodes
+abbrev pub most_nodes : ℕ
+most_nodes = 1000
+
+-- the option of two words: `--upper` or `--nodes`, and its number
+abbrev pub valued_option_of : List ℕ → List ℕ → Option SolveOption
+valued_option_of word next =
+    if bytes_eq word (codes "--upper") then option_map (λ bound. Upper (pos bound)) (number_within 0 most_upper next)
+    else if bytes_eq word (codes "--nodes") then option_map Nodes (number_within 1 most_nodes next) else None
+
+-- the option that words begin with: `--fixed`, or one of two words
 abbrev pub first_option_of : List (List ℕ) → Option SolveOption
 first_option_of [] = None
 first_option_of (word ∷ []) = if bytes_eq word (codes "--fixed") then Some Fixed else None
-first_option_of (word ∷ next ∷ words) =
-    if bytes_eq word (codes "--fixed") then Some Fixed
-    else if bytes_eq word (codes "--upper") then option_map Upper (bound_of next) else None
+first_option_of (word ∷ next ∷ words) = if bytes_eq word (codes "--fixed") then Some Fixed else valued_option_of word next
 
 -- how many words an option has
 abbrev pub words_in : SolveOption → ℕ
 words_in Fixed = 1
 words_in (Upper bound) = 2
+words_in (Nodes count) = 2
 
 -- the options that words spell, in order
 unfoldable pub options_of : List (List ℕ) → Option (List SolveOption)
@@ -47,36 +53,54 @@ options_of [] = Some []
 options_of (word ∷ []) = if bytes_eq word (codes "--fixed") then Some (Fixed ∷ []) else None
 options_of (word ∷ next ∷ words) =
     if bytes_eq word (codes "--fixed") then option_map (λ options. Fixed ∷ options) (options_of (next ∷ words))
-    else if bytes_eq word (codes "--upper") then option_and_then (λ bound. option_map (λ options. Upper bound ∷ options) (options_of words)) (bound_of next)
-    else None
+    else option_and_then (λ option. option_map (λ options. option ∷ options) (options_of words)) (valued_option_of word next)
 
-abbrev pub with_fixed : Layout → Option ℤ → Option Options
-with_fixed Free upper = Some (record { layout = fixed_layout; upper = upper })
-with_fixed fixed_layout upper = None
+abbrev pub with_fixed : Layout → Option ℤ → Option ℕ → Option Chosen
+with_fixed Free upper nodes = Some (record { layout = fixed_layout; upper = upper; nodes = nodes })
+with_fixed fixed_layout upper nodes = None
 
-abbrev pub with_upper : ℤ → Layout → Option ℤ → Option Options
-with_upper bound layout None = Some (record { layout = layout; upper = Some bound })
-with_upper bound layout (Some other) = None
+abbrev pub with_upper : ℤ → Layout → Option ℤ → Option ℕ → Option Chosen
+with_upper bound layout None nodes = Some (record { layout = layout; upper = Some bound; nodes = nodes })
+with_upper bound layout (Some other) nodes = None
+
+abbrev pub with_nodes : ℕ → Layout → Option ℤ → Option ℕ → Option Chosen
+with_nodes count layout upper None = Some (record { layout = layout; upper = upper; nodes = Some count })
+with_nodes count layout upper (Some other) = None
 
 -- one more option beside those that are given; none where it is given already
-abbrev pub with_option : Options → SolveOption → Option Options
-with_option given Fixed = with_fixed given.layout given.upper
-with_option given (Upper bound) = with_upper bound given.layout given.upper
+abbrev pub with_option : Chosen → SolveOption → Option Chosen
+with_option given Fixed = with_fixed given.layout given.upper given.nodes
+with_option given (Upper bound) = with_upper bound given.layout given.upper given.nodes
+with_option given (Nodes count) = with_nodes count given.layout given.upper given.nodes
 
 -- the options in any order, each at most once
-abbrev pub settled : Options → List SolveOption → Option Options
+abbrev pub settled : Chosen → List SolveOption → Option Chosen
 settled given [] = Some given
 settled given (option ∷ options) = option_and_then (λ more. settled more options) (with_option given option)
 
--- free form and no upper bound
-abbrev pub no_options : Options
-no_options = record { layout = Free; upper = None }
+-- free form, no upper bound and no budget
+abbrev pub none_chosen : Chosen
+none_chosen = record { layout = Free; upper = None; nodes = None }
 
 -- the options that words spell, in any order, each at most once
-abbrev pub settled_options : List (List ℕ) → Option Options
-settled_options words = option_and_then (settled no_options) (options_of words)
+abbrev pub settled_options : List (List ℕ) → Option Chosen
+settled_options words = option_and_then (settled none_chosen) (options_of words)
 
--- `solve [--fixed] [--upper U] MODEL PROOF`: the options, and the names of the two files
+-- how a model text is read and its model searched: its layout, the upper bound of the columns for which it gives none, and
+-- how many nodes may be worked
+pub record Options : Type 0 where
+  pub layout : Layout
+  pub upper : Option ℤ
+  pub nodes : ℕ
+
+abbrev pub options : Layout → Option ℤ → ℕ → Options
+options layout upper nodes = record { layout = layout; upper = upper; nodes = nodes }
+
+-- what was chosen, or stands where nothing was: a budget of 1000 nodes
+abbrev pub chosen_options : Chosen → Options
+chosen_options chosen = options chosen.layout chosen.upper (unwrap_or chosen.nodes 1000)
+
+-- `solve [--fixed] [--upper U] [--nodes N] MODEL PROOF`: the options, and the names of the two files
 pub record Solve : Type 0 where
   pub options : Options
   pub model : List ℕ
@@ -86,9 +110,9 @@ pub record Solve : Type 0 where
 abbrev pub are_file_names : List ℕ → List ℕ → Bool
 are_file_names model proof = is_file_name model && is_file_name proof && not (bytes_eq model proof)
 
-abbrev pub named : List (List ℕ) → Options → Option Solve
-named (model ∷ proof ∷ []) options = if are_file_names model proof then Some (record { options = options; model = model; proof = proof }) else None
-named words options = None
+abbrev pub named : List (List ℕ) → Chosen → Option Solve
+named (model ∷ proof ∷ []) chosen = if are_file_names model proof then Some (record { options = chosen_options chosen; model = model; proof = proof }) else None
+named words chosen = None
 
 -- options in front of two names
 abbrev pub solve_of : List (List ℕ) → Option Solve
@@ -103,16 +127,20 @@ command_of (word ∷ words) = if bytes_eq word (codes "solve") then solve_of wor
 abbrev pub option_words : SolveOption → List (List ℕ)
 option_words Fixed = codes "--fixed" ∷ []
 option_words (Upper bound) = codes "--upper" ∷ signed_decimal bound ∷ []
+option_words (Nodes count) = codes "--nodes" ∷ decimal count ∷ []
 
--- an upper bound is a whole number from 0 to 2^62
+-- an upper bound is a whole number from 0 to 2^62, and a budget of nodes one from 1 to 1000
 abbrev pub IsOption : SolveOption → Type 0
 IsOption Fixed = Unit {0}
-IsOption (Upper bound) = (pos 0 ≤ℤ bound) × (bound ≤ℤ pos 4611686018427387904)
+IsOption (Upper bound) = (pos 0 ≤ℤ bound) × (bound ≤ℤ pos most_upper)
+IsOption (Nodes count) = (1 ≤ count) × (count ≤ most_nodes)
 
 -- the word `solve`, options in any order, each at most once, and two different names of files
 pub record Spells (words : List (List ℕ)) (command : Solve) : Type 0 where
   pub options : List SolveOption
   pub in_range : All IsOption options
-  pub once : settled no_options options ≡ Some command.options
+  pub chosen : Chosen
+  pub once : settled none_chosen options ≡ Some chosen
+  pub meant : command.options ≡ chosen_options chosen
   pub names : are_file_names command.model command.proof ≡ true
   pub spelled : words ≡ codes "solve" ∷ (flat_map option_words options ++ command.model ∷ command.proof ∷ [])

@@ -1,8 +1,12 @@
 //! The commands of the program over a desk.
 #![tactic(auto)]
 
+mod brancher;
+mod counts;
 mod program;
+mod reply;
 mod report;
+mod search;
 mod status;
 mod take;
 mod verdict_law;
@@ -12,7 +16,7 @@ mod words_law;
 pub use program::run;
 pub use status::{Input, Status};
 pub use verdict_law::one_status_is_given;
-pub use words::{Command, FileName, Options, WordsStop, read_words};
+pub use words::{Command, FileName, WordsStop, read_words};
 pub use words_law::command_is_spelled;
 
 #[cfg(test)]

@@ -1,8 +1,9 @@
 //! The report of a run.
 ghost use Rattle.std.specs.Prelude.{◌≡◌, ◌++◌, ◌∷◌, [], pos, IfOk, OnOk, decimal};
 ghost use Rattle.std.specs.Fmt.{signed_decimal};
-ghost use Rattle.solve_cli.specs.Report.{report_of, fraction_text, point_lines, optimal_lines, limit_line, IsPartOf, text_line, name_of};
+ghost use Rattle.solve_cli.specs.Report.{report_of, fraction_text, point_lines, best_lines, count_lines, bare_lines, found_lines, limit_line, IsPartOf, text_line, name_of};
 
+use crate::counts::Counts;
 use frac128::Frac;
 use int_model::{Column, Model, Part};
 use itoa::Buffer;
@@ -61,21 +62,52 @@ fn put_points(text: &mut Vec<u8>, columns: &[Column], point: &[i128]) -> Result<
     Ok(())
 }
 
-/// The report of a best point and its value: a line for each column.
-pub(crate) fn optimal_report(
+// Puts the lines of the counts at the end.
+fn put_counts(text: &mut Vec<u8>, counts: Counts) -> Result<(), NoMemory>
+    ensures { OnOk result (text.new.items ≡ text.old.items ++ report_of (count_lines counts.nodes counts.plain)) }
+{
+    text.extend_from_slice(b"NODES ")?;
+    put_count(text, counts.nodes)?;
+    text.extend_from_slice(b"PLAIN ")?;
+    put_count(text, counts.plain)
+}
+
+// Puts the number in decimal digits and a line feed at the end.
+fn put_count(text: &mut Vec<u8>, count: u64) -> Result<(), NoMemory>
+    ensures { OnOk result (text.new.items ≡ text.old.items ++ report_of (decimal count ∷ [])) }
+{
+    let mut buffer = Buffer::new();
+    put_line(text, buffer.format(count).as_bytes())
+}
+
+/// The report of a search that found a point: its value, and a line for each column.
+pub(crate) fn found_report(
     alloc: Global,
+    head: &[u8],
     value: &Frac,
     columns: &[Column],
     point: &[i128],
+    counts: Counts,
 ) -> Result<Vec<u8>, NoMemory>
-    ensures { IfOk result (λ text. text.items ≡ report_of (optimal_lines value.now columns.now point.now)) }
+    ensures { IfOk result (λ text. text.items ≡ report_of (found_lines head.now value.now columns.now point.now counts.nodes counts.plain)) }
 {
     let mut text = Vec::new(alloc);
-    put_line(&mut text, b"OPTIMAL")?;
+    put_line(&mut text, head)?;
     text.extend_from_slice(b"VALUE ")?;
     put_fraction(&mut text, value)?;
     put_line(&mut text, b"")?;
     put_points(&mut text, columns, point)?;
+    put_counts(&mut text, counts)?;
+    Ok(text)
+}
+
+/// The report of a search that found no point.
+pub(crate) fn bare_report(alloc: Global, head: &[u8], counts: Counts) -> Result<Vec<u8>, NoMemory>
+    ensures { IfOk result (λ text. text.items ≡ report_of (bare_lines head.now counts.nodes counts.plain)) }
+{
+    let mut text = Vec::new(alloc);
+    put_line(&mut text, head)?;
+    put_counts(&mut text, counts)?;
     Ok(text)
 }
 

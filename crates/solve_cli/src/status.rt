@@ -18,9 +18,11 @@ pub enum Status {
     Optimal,
     /// The model has no point.
     Infeasible,
+    /// As many nodes were worked as the budget has, and some node is open.
+    Spent,
     /// The words are no command.
     Words,
-    /// The text has this fault, or, with the kind Unbuilt and line 0, states a model that is not searched yet.
+    /// The text has this fault.
     Text(TextFault),
     /// The input has more bytes than it may have.
     TooLong(Input),
@@ -44,6 +46,7 @@ impl Status {
         match self {
             Status::Optimal => 0,
             Status::Infeasible => 1,
+            Status::Spent => 2,
             Status::Words => 3,
             Status::Text(_) => 4,
             Status::TooLong(_) | Status::Large(_) => 5,

@@ -252,12 +252,13 @@ fn words_are_read(rt: HostRuntime) -> Result<(), Fail> {
         ),
     ] {
         let Command::Solve {
-            options,
+            layout: read_layout,
+            upper: read_upper,
             model,
             proof,
         } = read_words(alloc, &words(alloc, line)?)?;
-        assert!(rt; options.layout == layout, "in {line}");
-        assert!(rt; options.upper == upper, "in {line}");
+        assert!(rt; read_layout == layout, "in {line}");
+        assert!(rt; read_upper == upper, "in {line}");
         assert_eq!(rt; model.text().as_bytes(), "model.mps".as_bytes());
         assert_eq!(rt; proof.text().as_bytes(), "proof.txt".as_bytes());
     }
@@ -394,6 +395,43 @@ fn faults_of_texts_are_printed(rt: HostRuntime) -> Result<(), Fail> {
         assert_eq!(rt; status.code(), 4, "of {text}");
         assert_eq!(rt; desk.said(), report.as_bytes(), "to {text}");
     }
+    Ok(())
+}
+
+// So many rows and columns, each column with a factor in its own row, of which the side is 1.
+fn diagonal(alloc: Global, size: u32) -> Result<String, AllocError> {
+    let mut text = String::from_str(alloc, "ROWS\n")?;
+    for row in 0..size {
+        text.push_str(format!(in alloc; " E r{row}\n")?.as_str())?;
+    }
+    text.push_str("COLUMNS\n")?;
+    for column in 0..size {
+        text.push_str(format!(in alloc; " x{column} r{column} 1\n")?.as_str())?;
+    }
+    text.push_str("RHS\n")?;
+    for row in 0..size {
+        text.push_str(format!(in alloc; " r{row} 1\n")?.as_str())?;
+    }
+    text.push_str("BOUNDS\n")?;
+    for column in 0..size {
+        text.push_str(format!(in alloc; " BV x{column}\n")?.as_str())?;
+    }
+    text.push_str("ENDATA\n")?;
+    Ok(text)
+}
+
+#[test]
+fn a_model_of_the_greatest_size_is_solved(rt: HostRuntime) -> Result<(), Fail> {
+    let alloc = rt.alloc();
+    let mut desk = MemDesk::new(alloc);
+    desk.add_input("m", diagonal(alloc, 256)?.as_bytes())?;
+    let status = run(alloc, &words(alloc, "solve m p")?, &mut desk);
+    assert_eq!(rt; status.code(), 0);
+    assert!(rt;
+        desk.said()
+            .starts_with(b"OPTIMAL\nVALUE 0\nPOINT 1 x0\nPOINT 1 x1\n")
+    );
+    assert!(rt; desk.said().ends_with(b"\nPOINT 1 x255\n"));
     Ok(())
 }
 

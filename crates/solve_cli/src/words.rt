@@ -1,12 +1,11 @@
 //! The command that a list of words spells.
-ghost use Rattle.std.specs.Prelude.{◌≡◌, ◌≤◌, true, IfOk, length, map, option_and_then, string_bytes};
+ghost use Rattle.std.specs.Prelude.{◌≡◌, ◌≤◌, true, IfOk, IfSome, length, map, option_and_then, string_bytes};
 ghost use Rattle.std.specs.List.{list_all};
 ghost use Rattle.mps_fields.specs.Decimal.{is_digit as digit, is_digits as digits};
-ghost use Rattle.solve_cli.specs.Words.{is_file_name as named_file, are_file_names as file_names, is_plain_number as plain_number, bound_of, first_option_of, words_in, with_option, settled, options_of, solve_of, no_options, command_of};
+ghost use Rattle.solve_cli.specs.Words.{is_file_name as named_file, are_file_names as file_names, is_plain_number as plain_number, number_within, valued_option_of, first_option_of, words_in, with_option, settled, options_of, solve_of, none_chosen, command_of};
 ghost use Rattle.solve_cli.specs.Commands.{GivesCommand};
 ghost use Rattle.solve_cli.specs.declared.words.WordsStop.TheVariants.{NoMemory as no_memory};
 
-use mps_fields::number;
 use mps_model::Layout;
 use std::alloc::{AllocError, Global};
 use std::marker::Model;
@@ -14,7 +13,13 @@ use std::marker::Model;
 const MOST_NAME_BYTES: usize = 255;
 
 /// 2^62, the greatest upper bound that may be handed in.
-const MOST_UPPER: i128 = 4_611_686_018_427_387_904;
+const MOST_UPPER: u64 = 4_611_686_018_427_387_904;
+
+/// The greatest budget of nodes.
+const MOST_NODES: u64 = 1_000;
+
+/// The budget of nodes where none is given.
+const DEFAULT_NODES: u32 = 1_000;
 
 /// The name of a file: 1 to 255 bytes that do not begin with `-`.
 #[derive(Debug, Drop)]
@@ -48,13 +53,15 @@ impl FileName {
 pub(crate) enum SolveOption {
     Fixed,
     Upper(i128),
+    Nodes(u32),
 }
 
-/// How a model text is read: its layout, and the upper bound of the columns for which it gives none.
-#[derive(Clone, Copy, Debug, Drop, PartialEq, Eq)]
-pub struct Options {
-    pub layout: Layout,
-    pub upper: Option<i128>,
+/// The options that were read so far.
+#[derive(Clone, Copy, Drop)]
+pub(crate) struct Chosen {
+    layout: Layout,
+    upper: Option<i128>,
+    nodes: Option<u32>,
 }
 
 impl SolveOption {
@@ -64,38 +71,49 @@ impl SolveOption {
     {
         match self {
             SolveOption::Fixed => 1,
-            SolveOption::Upper(_) => 2,
+            SolveOption::Upper(_) | SolveOption::Nodes(_) => 2,
         }
     }
 }
 
-impl Options {
-    /// Free form and no upper bound.
-    fn new() -> Options
-        ensures { result ≡ no_options }
+impl Chosen {
+    /// Free form, no upper bound and no budget.
+    fn none() -> Chosen
+        ensures { result ≡ none_chosen }
     {
-        Options {
+        Chosen {
             layout: Layout::Free,
             upper: None,
+            nodes: None,
         }
     }
 
     /// These options and one more, unless it is given already.
-    fn with(self, option: SolveOption) -> Option<Options>
+    fn with(self, option: SolveOption) -> Option<Chosen>
         ensures { result ≡ with_option self option }
     {
         match option {
             SolveOption::Fixed => match self.layout {
-                Layout::Free => Some(Options {
+                Layout::Free => Some(Chosen {
                     layout: Layout::Fixed,
                     upper: self.upper,
+                    nodes: self.nodes,
                 }),
                 Layout::Fixed => None,
             },
             SolveOption::Upper(bound) => match self.upper {
-                None => Some(Options {
+                None => Some(Chosen {
                     layout: self.layout,
                     upper: Some(bound),
+                    nodes: self.nodes,
+                }),
+                Some(_) => None,
+            },
+            SolveOption::Nodes(count) => match self.nodes {
+                None => Some(Chosen {
+                    layout: self.layout,
+                    upper: self.upper,
+                    nodes: Some(count),
                 }),
                 Some(_) => None,
             },
@@ -106,9 +124,12 @@ impl Options {
 /// A command.
 #[derive(Debug, Drop)]
 pub enum Command {
-    /// Solves the model that the text in `model` states. The proof of the answer will go into `proof`.
+    /// Solves the model that the text in `model` states, in this layout, with this upper bound for the columns for which it
+    /// gives none, and with a budget of so many nodes. The proof of the answer will go into `proof`.
     Solve {
-        options: Options,
+        layout: Layout,
+        upper: Option<i128>,
+        nodes: u32,
         model: FileName,
         proof: FileName,
     },
@@ -168,17 +189,37 @@ fn is_plain_number(word: &[u8]) -> bool
     is_digits(word) && (word.len() == 1 || word[0] != b'0')
 }
 
-// The upper bound that a word spells, of at most 2^62.
-fn bound(word: &[u8]) -> Option<i128>
-    ensures { result ≡ bound_of word.now }
+// The whole number from low to high that a word spells in its shortest decimal digits.
+fn number(word: &str, low: u64, high: u64) -> Option<u64>
+    ensures value { result ≡ number_within low high word.now }
+    ensures range { IfSome result (λ number. number ≤ high) }
 {
-    if !is_plain_number(word) {
+    if !is_plain_number(word.as_bytes()) {
         return None;
     }
-    match number(word) {
-        Ok(number) if number.num() <= MOST_UPPER => Some(number.num()),
-        _ => None,
+    let Ok(number) = word.parse::<u64>() else {
+        return None;
+    };
+    if number < low {
+        return None;
     }
+    if number > high {
+        return None;
+    }
+    Some(number)
+}
+
+// The option of two words.
+fn valued_option(word: &str, value: &str) -> Option<SolveOption>
+    ensures { result ≡ valued_option_of word.now value.now }
+{
+    if word == "--upper" {
+        return Some(SolveOption::Upper(i128::from(number(value, 0, MOST_UPPER)?)));
+    }
+    if word == "--nodes" {
+        return Some(SolveOption::Nodes(number(value, 1, MOST_NODES)? as u32));
+    }
+    None
 }
 
 // The option that words begin with.
@@ -187,18 +228,16 @@ fn first_option(words: &[String]) -> Option<SolveOption>
 {
     match words {
         [word, ..] if word.as_str() == "--fixed" => Some(SolveOption::Fixed),
-        [word, value, ..] if word.as_str() == "--upper" => {
-            Some(SolveOption::Upper(bound(value.as_bytes())?))
-        }
+        [word, value, ..] => valued_option(word.as_str(), value.as_str()),
         _ => None,
     }
 }
 
 // The options that words spell, in any order, each at most once.
-fn read_options(words: &[String]) -> Option<Options>
-    ensures { result ≡ option_and_then (settled no_options) (options_of (map string_bytes words.now)) }
+fn read_options(words: &[String]) -> Option<Chosen>
+    ensures { result ≡ option_and_then (settled none_chosen) (options_of (map string_bytes words.now)) }
 {
-    let mut given = Options::new();
+    let mut given = Chosen::none();
     let mut rest = words;
     while !rest.is_empty() {
         let option = first_option(rest)?;
@@ -229,11 +268,13 @@ fn read_solve(alloc: Global, words: &[String]) -> Result<Command, WordsStop>
     if !are_file_names(model, proof) {
         return Err(WordsStop::Words);
     }
-    let Some(options) = read_options(options) else {
+    let Some(chosen) = read_options(options) else {
         return Err(WordsStop::Words);
     };
     Ok(Command::Solve {
-        options,
+        layout: chosen.layout,
+        upper: chosen.upper,
+        nodes: chosen.nodes.unwrap_or(DEFAULT_NODES),
         model: name(alloc, model)?,
         proof: name(alloc, proof)?,
     })

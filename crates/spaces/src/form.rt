@@ -1,5 +1,5 @@
 //! Linear forms on a space.
-ghost use Rattle.std.specs.Prelude.{◌≡◌, pos, length};
+ghost use Rattle.std.specs.Prelude.{◌≡◌, ◌<◌, pos, length, replicate, slice_set};
 ghost use Rattle.std.specs.Result.{OkIff};
 ghost use Rattle.exact_math.specs.Ring.{integers};
 ghost use Rattle.exact_vectors.specs.Range.{StaysInRange};
@@ -45,6 +45,21 @@ impl<S: Space> Form<S> {
         ensures { result.now ≡ self.now }
     {
         self.items.as_slice()
+    }
+
+    /// Makes each factor 0.
+    pub fn clear(&mut self)
+        ensures { self.new ≡ replicate (length self.old) (pos 0) }
+    {
+        self.items.as_mut_slice().fill(0);
+    }
+
+    /// Puts another factor in the place of that of this column.
+    pub fn set(&mut self, column: usize, factor: i128)
+        requires { column < length self.old }
+        ensures { self.new ≡ slice_set self.old column factor }
+    {
+        self.items[column] = factor;
     }
 
     /// The form's value at `v`: the sum of each factor times the item in its place, taken in index order.

@@ -124,15 +124,3 @@ fn a_sum_lies_between_its_ends(rt: HostRuntime) -> Result<(), Fail> {
     assert!(rt; !reaches_sides(&[2, -1], None, Some(-6), BOX));
     Ok(())
 }
-
-#[test]
-fn a_stop_tells_its_cause(rt: HostRuntime) -> Result<(), Fail> {
-    let heavy = format!(in rt.alloc(); "{}, {}, {}", BoxStop::Heavy(7), RowStop::Heavy, HeavyCost)?;
-    assert_eq!(rt;
-        heavy.as_str(),
-        "column 7 is too heavy, the row is too heavy, the cost is too heavy"
-    );
-    let memory = format!(in rt.alloc(); "{}, {}", BoxStop::NoMemory, RowStop::NoMemory)?;
-    assert_eq!(rt; memory.as_str(), "out of memory, out of memory");
-    Ok(())
-}

@@ -3,11 +3,11 @@ use Rattle.std.specs.Int.{w128}
 use Rattle.std.proofs.lemmas.Int.{to_z-of_z}
 use Rattle.int_model.specs.Scale.{common_denominator, common_numerator}
 use Rattle.int_model.specs.IntegerRows.{objective_of, integer_rows, cost}
-use Rattle.int_model.specs.WholeRows.{span}
+use Rattle.whole_rows.specs.WholeRows.{span}
 use Rattle.int_model.specs.ObjectiveValues.{value_factor}
 use Rattle.int_model.specs.Large.{objective_numbers, multiple}
 use Rattle.int_model.proofs.ScaleLaws.{common_denominator_pos}
-use Rattle.int_model.proofs.LcmLemmas.{above_zero}
+use Rattle.int_model.proofs.CheckedProductLaws.{above_zero}
 use Rattle.int_model.proofs.ObjectiveLaws as laws
 use Rattle.int_model.proofs.objective.terms_of.Goals as goal
 use Rattle.int_model.proofs.objective.terms_of.Goals.{In_ok-denominator, In_ok-divisor, In_ok-factor, In_ok-sum}
@@ -75,7 +75,7 @@ factor c is_denominator is_divisor =
     laws.factor_found c.args.model.now c.in_ok-divisor.divisor c.in_ok-denominator.denominator c.common_numerator.result c.in_ok-factor.factor c.requires.items is_divisor is_denominator (rw c.items-items.ensures at c.common_numerator.ensures.value) (simp to_z-of_z at c.in_ok-factor.ensures)
 
 -- the costs' span, and the constant's size
-spans : (c : In_ok-sum) → c.in_ok-span.span ≡ span (cost c.args.model.now) (integer_rows c.args.model.now).box
+spans : (c : In_ok-sum) → c.in_ok-span.span ≡ span (cost c.args.model.now) (integer_rows c.args.model.now).whole.box
 spans c = c.in_ok-span.ensures.1 ∙ laws.span_from c.args.model.now c.args.cost.now c.args.columns.now c.requires.cost c.requires.columns
 
 first : (c : In_ok-sum) → c.in_ok-sum.sum ≡ 0 + nat_abs c.num-constant.result * 1

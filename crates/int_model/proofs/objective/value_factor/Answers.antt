@@ -1,7 +1,7 @@
 use Rattle.std.proofs.Common.{int_div, FitsSigned}
 use Rattle.std.specs.Int.{w128}
 use Rattle.std.proofs.lemmas.Int.{to_z-of_z, quot_fits}
-use Rattle.int_model.proofs.LcmLemmas.{factor_answered}
+use Rattle.int_model.proofs.CheckedProductLaws.{factor_answered}
 use Rattle.int_model.proofs.objective.value_factor.Goals as goal
 
 pub returns : goal.returns

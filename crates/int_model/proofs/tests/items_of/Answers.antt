@@ -1,5 +1,5 @@
 use Rattle.std.proofs.Common.{refl}
-use Rattle.int_model.proofs.DistinctLemmas.{IsDistinctBelow-more, IsDistinctBelow-push}
+use Rattle.int_model.specs.DistinctLaws.{IsDistinctBelow-more, IsDistinctBelow-push}
 use Rattle.int_model.proofs.tests.items_of.Goals as goal
 use Rattle.int_model.proofs.tests.items_of.Goals.{then-j-factors+then-factors-j-ne0+in_ok-fraction+in_ok-push, else-j-factors}
 

@@ -1,4 +1,4 @@
-use Rattle.mps_fields.proofs.FieldLaws.{free_fields_are}
+use Rattle.mps_fields.proofs.FreeFieldLaws.{free_fields_are}
 use Rattle.mps_fields.proofs.examples.free_fields_are_runs.Goals as goal
 
 pub returns : goal.returns

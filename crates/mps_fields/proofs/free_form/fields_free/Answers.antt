@@ -1,5 +1,5 @@
 use Rattle.mps_fields.specs.LineViews.{line_view}
-use Rattle.mps_fields.proofs.FoundLaws.{one_found}
+use Rattle.mps_fields.proofs.FoundFieldLaws.{one_found}
 use Rattle.mps_fields.proofs.free_form.fields_free.Goals as goal
 
 pub loop-cut-preserved : goal.loop-cut-preserved

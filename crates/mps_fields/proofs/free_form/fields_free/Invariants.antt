@@ -1,5 +1,5 @@
 use Rattle.std.proofs.Common.{length}
-use Rattle.mps_fields.proofs.FoundLaws.{IsFound}
+use Rattle.mps_fields.proofs.FoundFieldLaws.{IsFound}
 use Rattle.mps_fields.specs.LineViews.{line_view}
 use Rattle.mps_fields.proofs.free_form.fields_free.Given as goal
 

@@ -1,4 +1,4 @@
-use Rattle.mps_model.proofs.ColumnLaws.{faultless_settled}
+use Rattle.mps_model.proofs.OnModel.FaultlessColumnLaws.{faultless_settled}
 use Rattle.mps_model.proofs.examples.faultless_columns.Goals as goal
 
 pub returns : goal.returns

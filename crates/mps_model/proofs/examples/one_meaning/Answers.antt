@@ -1,4 +1,4 @@
-use Rattle.mps_model.proofs.MeaningLaws as Laws
+use Rattle.mps_model.proofs.OnTexts.MeaningLaws as Laws
 use Rattle.mps_model.proofs.examples.one_meaning.Goals as goal
 
 pub returns : goal.returns

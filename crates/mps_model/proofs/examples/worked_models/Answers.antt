@@ -6,7 +6,7 @@ use Rattle.mps_fields.specs.FreeFields.{fields_from}
 use Rattle.mps_fields.specs.Decimal.{digits_value}
 use Rattle.mps_fields.specs.Reading.{decimal_with, decimal_of, value_of}
 use Rattle.mps_model.specs.Bounds.{without_repeats}
-use Rattle.mps_model.specs.Stated.{stated, means}
+use Rattle.mps_model.specs.StatedModel.{stated, means}
 use Rattle.mps_model.specs.PairFaults.{pairs_fault}
 use Rattle.mps_model.specs.LineFaults.{line_fault}
 use Rattle.mps_model.specs.Meaning.{first_line_fault, fault_at, meaning}

@@ -1,8 +1,8 @@
 use Rattle.std.proofs.Common.{[], ◌∷◌, map, Err, sym, ap, subst, ◌∙◌}
 use Rattle.std.proofs.lemmas.List.{map-append}
 use Rattle.mps_fields.specs.LineViews.{line_view}
-use Rattle.mps_model.proofs.FinishLaws.{kept_sized}
-use Rattle.mps_model.proofs.ReadLaws.{IsReadTo, read_none, read_more, read_stopped, read_ended, read_all, buildable_at_end, answer_model, answer_fault, answer_limits}
+use Rattle.mps_model.proofs.OnTables.FinishedTableLaws.{kept_sized}
+use Rattle.mps_model.proofs.OnTexts.ReaderScanLaws.{IsReadTo, read_none, read_more, read_stopped, read_ended, read_all, buildable_at_end, answer_model, answer_fault, answer_limits}
 use Rattle.mps_model.proofs.reading.read.Goals as goal
 
 pub take-requires : goal.take-requires

@@ -1,6 +1,6 @@
 use Rattle.std.proofs.Common.{map}
 use Rattle.mps_fields.specs.LineViews.{line_view}
-use Rattle.mps_model.proofs.ReadLaws.{IsReadTo}
+use Rattle.mps_model.proofs.OnTexts.ReaderScanLaws.{IsReadTo}
 use Rattle.mps_model.proofs.reading.read.Given as goal
 
 abbrev pub invariant-loop-line : goal.invariant-loop-line

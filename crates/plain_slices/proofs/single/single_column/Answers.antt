@@ -1,4 +1,4 @@
-use Rattle.std.proofs.Common.{ap, of_z, rules, inl, inr, refl, sym, ◌∙◌, arith, get_or, pos, length, ◌<◌, ◌≤◌, ◌≡◌, true, false}
+use Rattle.std.proofs.Common.{ap, of_z, rules, inl, inr, refl, arith, length, ◌<◌, ◌≡◌, true, false}
 use Rattle.std.specs.Int.{w128}
 use Rattle.plain_slices.proofs.UnitLaws.{no_column-zeros, no_column-two, no_column-factor, one_factor, others_zero, signed-of_factor}
 use Rattle.plain_slices.proofs.single.single_column.Goals as goal

@@ -15,4 +15,4 @@ returns-in-Err-Words-clause-reason g c =
     c.line_reply.ensures.status c.line_reply.ensures.report
 
 pub solve_file-requires : goal.solve_file-requires
-solve_file-requires g c = let low = bounded_command (map string_bytes c.args.words.now.items) _ c.in-Ok.ensures in search rules
+solve_file-requires g c = let range = bounded_command (map string_bytes c.args.words.now.items) _ c.in-Ok.ensures in let low = range.upper in let some = range.some in search rules

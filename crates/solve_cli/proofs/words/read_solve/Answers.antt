@@ -11,8 +11,9 @@ returns-then-not-are_file_names c =
 
 pub returns : goal.returns
 returns c =
-    is_solve string_bytes c.args.words.now c.split_at.result.0.now c.split_at.result.1.now c.saturating_sub.result c.model-item.result c.proof-item.result c.saturating_sub.ensures
+    rw c.unwrap_or.ensures
+    (is_solve string_bytes c.args.words.now c.split_at.result.0.now c.split_at.result.1.now c.saturating_sub.result c.model-item.result c.proof-item.result c.saturating_sub.ensures
     c.split_at.ensures.front c.split_at.ensures.back (let a = c.in-len2.len_at_least in let b = c.in-len2.len_below in omega arith) c.model-item.is c.proof-item.is
-    c.in-Some.options _ _
+    c.in-Some.chosen _ _
     (rw (sym c.as_str-model.ensures.value, sym c.as_str-proof.ensures.value) (sym c.are_file_names.ensures ∙ c.if-not-are_file_names.false))
-    c.in-Some.ensures (c.in_ok-name.ensures ∙ c.as_str-model.ensures.value) (c.in_ok-name-2.ensures ∙ c.as_str-proof.ensures.value)
+    c.in-Some.ensures (c.in_ok-name.ensures ∙ c.as_str-model.ensures.value) (c.in_ok-name-2.ensures ∙ c.as_str-proof.ensures.value))

@@ -1,7 +1,7 @@
 use Rattle.std.proofs.Common.{◌+◌, ap, ◌∙◌}
 use Rattle.mps_fields.specs.FreeFields.{Span, FreeLine, with_field}
 use Rattle.mps_fields.specs.declared.free_form.FreeFields.TheInside.{Inside}
-use Rattle.mps_fields.proofs.KeptLaws.{kept, kept_more, kept_full}
+use Rattle.mps_fields.proofs.KeptFieldLaws.{kept, kept_more, kept_full}
 use Rattle.mps_fields.proofs.free_form.FreeFields.add.Goals as goal
 use Rattle.mps_fields.proofs.free_form.FreeFields.add.Goals.{then-self-lt-MOST_FIELDS, else-self-lt-MOST_FIELDS}
 

@@ -1,6 +1,6 @@
 use Rattle.std.proofs.Common.{◌<◌, sym, ap, ◌∙◌, arith}
 use Rattle.std.specs.Prelude.{slice_get}
-use Rattle.mps_fields.proofs.KeptLaws.{kept_at}
+use Rattle.mps_fields.proofs.KeptFieldLaws.{kept_at}
 use Rattle.mps_fields.proofs.free_form.FreeFields.field.Goals as goal
 
 pub returns-clause-span : goal.returns-clause-span

@@ -1,6 +1,6 @@
 use Rattle.std.proofs.Common.{ap, map, take, ◌∙◌}
 use Rattle.mps_fields.specs.FieldViews.{field_span}
-use Rattle.mps_fields.proofs.KeptLaws.{kept_all}
+use Rattle.mps_fields.proofs.KeptFieldLaws.{kept_all}
 use Rattle.mps_fields.proofs.free_form.FreeFields.fields.Goals as goal
 
 pub returns-clause-spans : goal.returns-clause-spans

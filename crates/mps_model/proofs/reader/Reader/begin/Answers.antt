@@ -1,7 +1,7 @@
 use Rattle.std.proofs.Common.{sym, ◌∙◌}
 use Rattle.mps_fields.specs.LineViews.{line_view}
 use Rattle.mps_model.specs.SectionOrder.{sections_in}
-use Rattle.mps_model.proofs.ReaderLaws.{section_alone, keeps_section}
+use Rattle.mps_model.proofs.OnTexts.ReaderLineLaws.{section_alone, keeps_section}
 use Rattle.mps_model.proofs.reader.Reader.begin.Goals as goal
 
 pub returns : goal.returns

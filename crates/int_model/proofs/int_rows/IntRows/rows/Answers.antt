@@ -1,6 +1,0 @@
-use Rattle.std.proofs.Common.{arith}
-use Rattle.int_model.proofs.FlatLemmas.{rows-whole_rows}
-use Rattle.int_model.proofs.int_rows.IntRows.rows.Goals as goal
-
-pub returns-clause-count : goal.returns-clause-count
-returns-clause-count c = omega (arith, rows-whole_rows _ _ _ _ _ _ c.self.view_is)

@@ -1,5 +1,0 @@
-use Rattle.int_model.proofs.SumLemmas.{IsSumUpTo}
-use Rattle.int_model.proofs.sums.dot_product.Given as goal
-
-abbrev pub invariant-loop-i : goal.invariant-loop-i
-invariant-loop-i l = IsSumUpTo l.factors l.x l.i l.sum

@@ -1,6 +1,0 @@
-use Rattle.std.proofs.Common.{◌≡◌, ◌^◌, ◌≤◌, take}
-use Rattle.int_model.specs.WholeRows.{span}
-use Rattle.int_model.proofs.weights.span_of.Given as goal
-
-abbrev pub invariant-loop-j : goal.invariant-loop-j
-invariant-loop-j l = record { value : l.sum ≡ span (take l.j l.factors) l.columns; light : l.sum ≤ 2 ^ 96 }

@@ -1,0 +1,13 @@
+pub mod FirstFound
+pub mod SoonestFound
+pub mod ValueLaws
+pub mod ExchangeLaws
+pub mod FinishSteps
+pub mod StartLaws
+pub mod CertificateLaws
+pub mod ReachedLaws
+pub mod SolutionLaws
+pub mod EndLaws
+pub mod LeastLaws
+pub mod RunSteps
+pub mod SolveSteps

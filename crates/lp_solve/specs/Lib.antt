@@ -1,0 +1,6 @@
+pub mod Rule
+pub mod Steps
+pub mod Values
+pub mod Certificates
+pub mod Outcomes
+pub mod Endings

@@ -1,0 +1,11 @@
+//! The exact simplex, with multipliers that show each answer.
+#![tactic(auto)]
+
+mod answer;
+mod finish;
+mod search;
+mod signs;
+mod solve;
+
+pub use answer::{LpExcuse, LpStop, Pivots, Point, Solved, Weights};
+pub use solve::minimise;

@@ -1,5 +1,0 @@
-use Rattle.mps_fields.proofs.ScaleLaws.{IsContinued}
-use Rattle.mps_fields.proofs.scale.continued.Given as goal
-
-abbrev pub invariant-loop-digit : goal.invariant-loop-digit
-invariant-loop-digit l = IsContinued l.number l.digits l.value l.digit-index

@@ -1,0 +1,16 @@
+-- Laws on the tables of a text: what they keep, section by section, as lines are taken.
+pub mod TableLaws
+pub mod BegunSectionLaws
+pub mod TakenLineLaws
+pub mod FinishedTableLaws
+pub mod RowTableLaws
+pub mod PairLaws
+pub mod SideTableLaws
+pub mod RangeTableLaws
+pub mod SumRangeLaws
+pub mod BoundTableLaws
+pub mod ColumnLineLaws
+pub mod ColumnItemLaws
+pub mod ColumnTableLaws
+pub mod FactorTableLaws
+pub mod ColumnLineFaultLaws

@@ -1,6 +1,0 @@
-use Rattle.std.proofs.Common.{refl}
-use Rattle.mps_model.proofs.BoundLaws.{nothing_kept}
-use Rattle.mps_model.proofs.bounds.BoundTable.new.Goals as goal
-
-pub returns : goal.returns
-returns c = λ names. nothing_kept names _ refl c.new.ensures.items

@@ -1,6 +1,0 @@
-use Rattle.std.proofs.Common.{refl}
-use Rattle.mps_model.proofs.KeptColumnLaws.{kept_none}
-use Rattle.mps_model.proofs.columns.ColumnTable.new.Goals as goal
-
-pub returns : goal.returns
-returns c = kept_none c.args.rows.now _ c.new.ensures c.new-2.ensures.items refl refl c.in_ok-new.ensures

@@ -1,5 +1,0 @@
-use Rattle.plain_slices.proofs.EndLemmas.{IsSumUpTo}
-use Rattle.plain_slices.proofs.ends.End.sum.Given as goal
-
-abbrev pub invariant-loop-i : goal.invariant-loop-i
-invariant-loop-i l = IsSumUpTo l.self l.factors l.bounds l.i l.sum

@@ -1,0 +1,4 @@
+pub mod Forms
+pub mod CutWords
+pub mod ShapeLaws
+pub mod ReadLaws

@@ -1,0 +1,15 @@
+//! Proof texts: what is spelled by a claim and a tree, and the reading of it.
+#![tactic(auto)]
+
+mod claim;
+mod numbers;
+mod print;
+mod shapes;
+mod words;
+
+pub use claim::{Claim, Record};
+pub use numbers::{read_number, read_size};
+pub use print::{Text, print_head, print_record};
+pub use sequence::NoMemory;
+pub use shapes::{Pair, SplitWords, cut_pair, numbers_behind, pairs_behind, split_words};
+pub use words::Words;

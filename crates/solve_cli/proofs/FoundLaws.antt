@@ -1,0 +1,84 @@
+-- What a search found, as what the model comes to.
+use Rattle.std.proofs.Common.{◌≡◌, ℕ, ◌+◌, ◌*◌, ◌^◌, ◌<◌, ℤ, true, List, length, refl, sym, ap, subst, ◌∙◌}
+use Rattle.std.specs.Prelude.{◌↔◌, Option, Some, None, IfSome, codes}
+use Rattle.std.proofs.lemmas.List.{length-map}
+use Rattle.exact_math.specs.Rational.{ℚ}
+use Rattle.whole_rows.specs.WholeRows.{Meets, HasLeastCutValue}
+use Rattle.proof_tree.specs.declared.tree.Tree.{Tree}
+use Rattle.proof_tree.specs.declared.tree.PartTree.{PartTree}
+use Rattle.proof_tree.specs.Counts.{records, plain_splits, plain_splits_of_part, records_of_part}
+use Rattle.proof_tree.specs.Moves.{widest}
+use Rattle.proof_tree.specs.Found.{IsDone, IsSpent}
+use Rattle.plain_slices.specs.PlainMoves.{IsPlainAnswer}
+use Rattle.int_model.specs.declared.model.Model.{Model}
+use Rattle.int_model.specs.IntegerRows.{rounded_bounds}
+use Rattle.int_model.specs.Points.{IsPoint, IsBest, value_at}
+use Rattle.int_model.specs.Large.{HasNoLargePart}
+use Rattle.solve_cli.specs.Report.{bare_lines, found_lines}
+use Rattle.solve_cli.specs.Verdict.{rows_of, enough_nodes, FindsBest, FindsNone, SpendsBudget}
+
+module _ (nodes : ℕ) (model : Model) (small : HasNoLargePart model) (points : (x : List ℤ) → IsPoint model x ↔ Meets (rows_of model) x) where
+  abbrev pub IsTree : Tree → Option (List ℤ) → Type 0
+  IsTree = IsDone (IsPlainAnswer (rows_of model)) (rows_of model) true nodes
+
+  abbrev pub IsPart : PartTree → Option (List ℤ) → Type 0
+  IsPart = IsSpent (IsPlainAnswer (rows_of model)) (rows_of model) true nodes
+
+  -- the lines of a point, by equal counts and values
+  found_same : (head : List ℕ) (value other : ℚ) (x : List ℤ) (a b c d : ℕ) → value ≡ other → a ≡ b → c ≡ d → found_lines head value model.columns x a c ≡ found_lines head other model.columns x b d
+  found_same head value other x a b c d e f g = rw (e, f, g) refl
+
+  bare_same : (head : List ℕ) (a b c d : ℕ) → a ≡ b → c ≡ d → bare_lines head a c ≡ bare_lines head b d
+  bare_same head a b c d f g = rw (f, g) refl
+
+  pub finds_best : ((x : List ℤ) → IsBest model x ↔ HasLeastCutValue (rows_of model) x) → (tree : Tree) (point : List ℤ) (value : ℚ) (a b : ℕ) → IsTree tree (Some point)
+      → value ≡ value_at model point → a ≡ records tree → b ≡ plain_splits tree → FindsBest nodes model (found_lines (codes "OPTIMAL") value model.columns point a b)
+  finds_best bests tree point value a b done is_value is_a is_b = record {
+    small = small;
+    point = point;
+    best = (bests point).1 done.least;
+    tree = tree;
+    shown = done.holds;
+    within = done.counted;
+    report = found_same (codes "OPTIMAL") value (value_at model point) point a (records tree) b (plain_splits tree) is_value is_a is_b;
+  }
+
+  pub finds_none : (tree : Tree) (a b : ℕ) → IsTree tree None → a ≡ records tree → b ≡ plain_splits tree → FindsNone nodes model (bare_lines (codes "INFEASIBLE") a b)
+  finds_none tree a b done is_a is_b = record {
+    small = small;
+    none = λ x point. done.least x ((points x).0 point);
+    tree = tree;
+    shown = done.holds;
+    within = done.counted;
+    report = bare_same (codes "INFEASIBLE") a (records tree) b (plain_splits tree) is_a is_b;
+  }
+
+  few_nodes : nodes < (widest (rows_of model).box + 2) ^ (2 * length (rows_of model).box) → nodes < enough_nodes model
+  few_nodes few = subst (λ n. nodes < (widest (rows_of model).box + 2) ^ (2 * n)) (length-map model.columns rounded_bounds) few
+
+  pub spends_with : (part : PartTree) (point : List ℤ) (value : ℚ) (a b : ℕ) → IsPart part (Some point) → value ≡ value_at model point → a ≡ records_of_part part → b ≡ plain_splits_of_part part
+      → SpendsBudget nodes model (found_lines (codes "SPENT") value model.columns point a b)
+  spends_with part point value a b spent is_value is_a is_b = record {
+    small = small;
+    best = Some point;
+    known = (points point).1 spent.known;
+    part = part;
+    shown = spent.holds;
+    counted = spent.counted;
+    unfinished = spent.unfinished;
+    few = few_nodes spent.few;
+    report = found_same (codes "SPENT") value (value_at model point) point a nodes b (plain_splits_of_part part) is_value (is_a ∙ spent.counted) is_b;
+  }
+
+  pub spends_without : (part : PartTree) (a b : ℕ) → IsPart part None → a ≡ records_of_part part → b ≡ plain_splits_of_part part → SpendsBudget nodes model (bare_lines (codes "SPENT") a b)
+  spends_without part a b spent is_a is_b = record {
+    small = small;
+    best = None;
+    known = tt;
+    part = part;
+    shown = spent.holds;
+    counted = spent.counted;
+    unfinished = spent.unfinished;
+    few = few_nodes spent.few;
+    report = bare_same (codes "SPENT") a nodes b (plain_splits_of_part part) (is_a ∙ spent.counted) is_b;
+  }

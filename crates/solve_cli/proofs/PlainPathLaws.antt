@@ -1,0 +1,99 @@
+-- Paths of splits of the first column that no slice fixes.
+use Rattle.std.proofs.Common.{◌≡◌, ⊎_elim, inl, inr, ℕ, ◌+◌, ◌-◌, ◌*◌, ◌^◌, ◌<◌, ◌≤◌, ℤ, pos, ◌+ℤ◌, ◌≤ℤ◌, ◌<ℤ◌, true, List, [], ◌∷◌, ◌++◌, length, refl, sym, subst, ◌∙◌, arith}
+use Rattle.std.specs.Prelude.{Option, None, Result, Ok, Err, All, IfOk, nat_abs}
+use Rattle.std.proofs.lemmas.Bool.{cases_lt}
+use Rattle.std.proofs.lemmas.List.{length_push, get_or_append_left}
+use Rattle.std.proofs.lemmas.List.Elements.{All-nil}
+use Rattle.std.proofs.lemmas.List.Quantifiers.{Any-push}
+use Rattle.exact_math.specs.IntegerRing.{linear}
+use Rattle.whole_rows.specs.declared.bounds.Bounds.{Bounds}
+use Rattle.whole_rows.specs.WholeRows.{WholeRows, IsWithinLimits, bounds_at, reach, span}
+use Rattle.farkas_rows.specs.declared.path.Slice.{Slice}
+use Rattle.farkas_rows.specs.Refutes.{HasForms}
+use Rattle.proof_tree.specs.declared.tree.Cut.{Cut}
+use Rattle.proof_tree.specs.declared.tree.Move.{Move}
+use Rattle.proof_tree.specs.declared.tree.Move.TheVariants.{Close, Split, Point}
+use Rattle.proof_tree.specs.Trees.{IsOfSize, on_slice}
+use Rattle.proof_tree.specs.Moves.{SplitsUnder, IsMove}
+use Rattle.proof_tree.specs.Soundness.{on_slice-each, on_slice-forms}
+use Rattle.plain_slices.specs.Shut.{IsColumn, IsFixedBy}
+use Rattle.plain_slices.specs.PlainMoves.{IsPlainMove, IsPlainAnswer}
+use Rattle.solve_cli.specs.PlainPaths.{IsPlainPath}
+
+-- what follows of a value follows of an answer
+pub on_ok : {T E : Type 0} (P Q : T → Type 0) (result : Result T E) → ((value : T) → P value → Q value) → IfOk result P → IfOk result Q
+on_ok P Q (Ok value) step holds = step value holds
+on_ok P Q (Err e) step holds = tt
+
+-- the root
+pub root_is_plain : (rows : WholeRows) → IsWithinLimits rows → IsPlainPath rows []
+root_is_plain rows limits = record {
+  limits = limits;
+  short = omega arith;
+  forms = All-nil (λ (slice : Slice). length slice.form ≡ length rows.box);
+  light = All-nil (λ (slice : Slice). span slice.form rows.box ≤ 2 ^ 96);
+  values = All-nil (λ (slice : Slice). IsOfSize (2 ^ 98) slice.beta);
+  fixed = λ column h. absurd (omega arith);
+}
+
+-- a column that is fixed stays so
+fixed-more : (n : ℕ) (path : List Slice) (slice : Slice) (column : ℕ) → IsFixedBy n path column → IsFixedBy n (path ++ slice ∷ []) column
+fixed-more n path slice column fixed = (fixed.0, fixed.1, omega (arith, length_push path slice, fixed.2), get_or_append_left path (slice ∷ []) fixed.1 fixed.0 fixed.2 ∙ fixed.3, fixed.4)
+
+-- bounds within the limits
+reach-bounds : (b : Bounds) → reach b ≤ 2 ^ 96 → IsOfSize (2 ^ 98) b.low × IsOfSize (2 ^ 98) b.high
+reach-bounds b h =
+    let low : nat_abs b.low ≤ 2 ^ 96 = omega arith in
+    let high : nat_abs b.high ≤ 2 ^ 96 = omega arith in
+    ((omega linear, omega linear), (omega linear, omega linear))
+
+-- a number between two bounds within the limits
+between : (b : Bounds) (lo count j : ℤ) → reach b ≤ 2 ^ 96 → lo ≡ b.low → lo +ℤ count ≡ b.high +ℤ pos 1 → pos 0 ≤ℤ j → j <ℤ count → IsOfSize (2 ^ 98) (lo +ℤ j)
+between b lo count j small is_low is_last first last =
+    let sides = reach-bounds b small in
+    (omega (linear, is_low, first, sides.0.0), omega (linear, is_last, last, sides.1.1))
+
+module _ (rows : WholeRows) (path : List Slice) (plain : IsPlainPath rows path) (best : Option ℤ) where
+  -- the first column that no slice fixes is behind as many as there are slices
+  depth : (cut : Cut) (move : IsPlainMove rows path best cut) → length path ≤ move.column
+  depth cut move = ⊎_elim (λ (before : move.column < length path). absurd (move.free (plain.fixed move.column before))) (λ (behind : length path ≤ move.column). behind) (cases_lt move.column (length path))
+
+  -- the answer of a plain node is a move there
+  pub move_of_plain : (move : Move) → IsPlainAnswer rows path best move → IsMove rows path best (length rows.box - length path) true move
+  move_of_plain (Close line) h = h.1
+  move_of_plain (Split cut) h = (h.1, (λ some. let d = depth cut h.0 in omega (arith, d, h.0.is_column)), ((λ _. refl), (λ _. h.0.mark)))
+  move_of_plain (Point x) h = h.2
+
+  module _ (cut : Cut) (j : ℤ) (move : IsPlainMove rows path best cut) (splits : SplitsUnder rows best path cut) (first : pos 0 ≤ℤ j) (last : j <ℤ cut.count) where
+    abbrev beta : ℤ
+    beta = cut.lo +ℤ j
+
+    abbrev slice : Slice
+    slice = record { form = cut.form; beta = beta }
+
+    here : IsFixedBy (length rows.box) (on_slice path cut.form beta) move.column
+    here = Any-push (λ (s : Slice). IsColumn (length rows.box) move.column s.form) path slice (inl move.form)
+
+    fixed : (column : ℕ) → column < length (on_slice path cut.form beta) → IsFixedBy (length rows.box) (on_slice path cut.form beta) column
+    fixed column h =
+        ⊎_elim (λ (before : column < move.column). fixed-more (length rows.box) path slice column (move.first column before))
+        (λ (behind : move.column ≤ column).
+        let same : move.column ≡ column = let d = depth cut move in omega (arith, length_push path slice, d, h, behind) in
+        subst (IsFixedBy (length rows.box) (on_slice path cut.form beta)) same here)
+        (cases_lt column move.column)
+
+    -- and so is the path of each of its slices
+    pub below_plain : IsPlainPath rows (on_slice path cut.form beta)
+    below_plain = record {
+      limits = plain.limits;
+      short = let d = depth cut move in omega (arith, length_push path slice, d, move.is_column);
+      forms = on_slice-forms (length rows.box) path cut.form beta plain.forms splits.form.dense;
+      light = on_slice-each (λ (s : Slice). span s.form rows.box ≤ 2 ^ 96) path cut.form beta plain.light splits.form.light;
+      values = on_slice-each (λ (s : Slice). IsOfSize (2 ^ 98) s.beta) path cut.form beta plain.values
+          (between (bounds_at rows move.column) cut.lo cut.count j (plain.limits.light.reaches move.column (record { low = pos 0; high = pos 0 }) move.is_column) move.lo move.last first last);
+      fixed = fixed;
+    }
+
+    -- one slice more leaves one less
+    pub lower_plain : (length rows.box - length (on_slice path cut.form beta)) + 1 ≤ length rows.box - length path
+    lower_plain = let d = depth cut move in omega (arith, length_push path slice, d, move.is_column)
