@@ -6,6 +6,8 @@ mod finish;
 mod search;
 mod signs;
 mod solve;
+#[cfg(test)]
+mod tests;
 
 pub use answer::{LpExcuse, LpStop, Pivots, Point, Solved, Weights};
 pub use solve::minimise;
