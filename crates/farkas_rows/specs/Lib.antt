@@ -5,3 +5,4 @@ pub mod Judgement
 pub mod Sides
 pub mod EachInequality
 pub mod NodeLaws
+pub mod LeastLine

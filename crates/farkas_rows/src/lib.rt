@@ -1,6 +1,7 @@
 //! Lines: combinations of a node's inequalities that show that no point is there.
 #![tactic(auto)]
 
+mod fracs;
 mod judge;
 mod laws;
 mod line;
@@ -8,6 +9,7 @@ mod node;
 mod path;
 mod side;
 
+pub use fracs::{CutFrac, FracUse, LineStop, OriginalTimes, from_fracs};
 pub use judge::{refutes, weigh};
 pub use laws::refuted_node_has_no_point;
 pub use line::{CutUse, End, Line, Use, Uses, Weight};
