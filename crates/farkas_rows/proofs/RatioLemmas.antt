@@ -40,8 +40,7 @@ above_zero n h = omega linear
 -- numbers in the ratio of a fraction in lowest terms are multiples of its terms
 pub ratio_terms : (number result : ℤ) (r : ℚ) → result *ℤ pos r.den ≡ number *ℤ r.num → (r.den ∣ nat_abs number) × (nat_abs r.num ∣ nat_abs result)
 ratio_terms number result r e =
-    let sizes : nat_abs result * r.den ≡ nat_abs number * nat_abs r.num = sym (abs_mul result (pos r.den)) ∙ ap nat_abs e ∙ abs_mul number r.num in
-    (
+    let sizes : nat_abs result * r.den ≡ nat_abs number * nat_abs r.num = sym (abs_mul result (pos r.den)) ∙ ap nat_abs e ∙ abs_mul number r.num in (
       dvd_from_product r.den (nat_abs r.num) (nat_abs number) (gcd_comm r.den (nat_abs r.num) ∙ terms_lowest r) (subst (λ n. r.den ∣ n) (sizes ∙ mul_comm (nat_abs number) (nat_abs r.num)) (dvd-mul_left r.den (nat_abs result))),
       dvd_from_product (nat_abs r.num) r.den (nat_abs result) (terms_lowest r) (subst (λ n. nat_abs r.num ∣ n) (sym sizes ∙ mul_comm (nat_abs result) r.den) (dvd-mul_left (nat_abs r.num) (nat_abs number))),
     )
@@ -103,10 +102,13 @@ module _ {X : Type 0} (den : X → ℕ) where
     where
       above : (n : ℕ) → 0 < n → pos 1 ≤ℤ pos n
       above n h = omega linear
+
       above_abs : (z : ℤ) → pos 1 ≤ℤ z → 0 < nat_abs z
       above_abs z h = omega linear
+
       first : (n : ℕ) → All (λ item. den item ∣ n) (take (i + 1) items) → All (λ item. den item ∣ n) (take i items)
       first n all = subst (All (λ item. den item ∣ n)) (take-take i (i + 1) items (omega arith)) (All-take (λ item. den item ∣ n) i (take (i + 1) items) all)
+
       last : (n : ℕ) → All (λ item. den item ∣ n) (take (i + 1) items) → den (get_or items i d) ∣ n
       last n all = subst (λ (x : X). den x ∣ n) (get_or-take (i + 1) items i d (omega arith)) (all i d (omega (arith, length-take-le (i + 1) items (omega arith))))
 

@@ -6,3 +6,4 @@ pub mod Sides
 pub mod EachInequality
 pub mod NodeLaws
 pub mod LeastLine
+pub mod LineStops

@@ -8,7 +8,7 @@ ghost use Rattle.frac128.specs.Range.{InRange};
 ghost use Rattle.farkas_rows.specs.Ends.{inequality_of};
 ghost use Rattle.farkas_rows.specs.Inequalities.{inequality_at};
 ghost use Rattle.farkas_rows.specs.LeastLine.{IsInRatio, IsCommon, IsLeastLine, fractions, first_of, cut_with};
-ghost use Rattle.farkas_rows.specs.Refutes.{HasForms, IsDense, line_weight};
+ghost use Rattle.farkas_rows.specs.Refutes.{HasForms, IsDense, multipliers, line_weight};
 ghost use Rattle.farkas_rows.specs.declared.fracs.LineStop.TheVariants as stops;
 ghost use Rattle.farkas_rows.specs.declared.line.Line.{Line};
 
@@ -18,6 +18,8 @@ use crate::path::Path;
 use frac128::{Frac, gcd};
 use sequence::{NoMemory, Sequence};
 use std::alloc::Global;
+use std::error::Error;
+use std::fmt;
 use whole_rows::DenseRows;
 
 /// The inequality of this number, so many times.
@@ -43,6 +45,22 @@ pub enum LineStop {
     Heavy,
     NoMemory,
 }
+
+impl fmt::Display for LineStop {
+    ghost use Rattle.std.specs.Prelude.{Some};
+    ghost use Rattle.farkas_rows.specs.LineStops.{line_stop_text};
+
+    ghost output = { λ stop. Some (line_stop_text stop) };
+
+    fn fmt<W: fmt::Write>(&self, f: &mut fmt::Formatter<W>) -> fmt::Result {
+        match self {
+            LineStop::Heavy => f.write_str("the line is too heavy"),
+            LineStop::NoMemory => f.write_str("out of memory"),
+        }
+    }
+}
+
+impl Error for LineStop {}
 
 impl From<NoMemory> for LineStop {
     ghost use Rattle.farkas_rows.specs.declared.fracs.LineStop.TheVariants.{NoMemory as OutOfMemory};
@@ -75,19 +93,29 @@ pub fn from_fracs<'a>(
     ensures light { IfOk result (λ line. line_weight rows.now path.now (inequality_of end.now) line ≤ℤ pos (2 ^ 126)) }
     ensures heavy { IsErrOf result stops.Heavy → (line : Line) → IsLeastLine cut.now times.now line → pos (2 ^ 126) <ℤ line_weight rows.now path.now (inequality_of end.now) line }
 {
-    let items = times.items();
-    let first = first_times(cut, items);
-    let Some(common) = common_multiple(&first, items) else {
-        return Err(LineStop::Heavy);
-    };
-    let line = Line {
-        cut: whole_cut(common, cut),
-        items: whole_items(alloc, common, &first, items)?,
-    };
+    let line = least_line(alloc, cut, times.items())?;
     match weigh(rows, path, end, &line) {
         Weight::Within(_) => Ok(line),
         Weight::Above => Err(LineStop::Heavy),
     }
+}
+
+/// The line with the least whole multipliers that are a multiple of these, which are above 0. `Heavy` comes only where
+/// one of them is above 2^127 - 1.
+fn least_line(alloc: Global, cut: &Option<CutFrac>, items: &[FracUse]) -> Result<Line, LineStop>
+    requires some { fractions cut.now items.now ≢ [] }
+    requires positive { All (λ part. whole (pos 0) <ℚ part) (fractions cut.now items.now) }
+    ensures line { IfOk result (IsLeastLine cut.now items.now) }
+    ensures heavy { IsErrOf result stops.Heavy → (line : Line) → IsLeastLine cut.now items.now line → All (λ number. number <ℤ pos (2 ^ 127)) (multipliers line) → ⊥ }
+{
+    let first = first_times(cut, items);
+    let Some(common) = common_multiple(&first, items) else {
+        return Err(LineStop::Heavy);
+    };
+    Ok(Line {
+        cut: whole_cut(common, cut),
+        items: whole_items(alloc, common, &first, items)?,
+    })
 }
 
 /// The multiplier of the cut, where it is used, and else of the first item.

@@ -1,6 +1,8 @@
 //! Lines: combinations of a node's inequalities that show that no point is there.
 #![tactic(auto)]
 
+#[cfg(test)]
+mod frac_tests;
 mod fracs;
 mod judge;
 mod laws;
