@@ -3,3 +3,7 @@ pub mod SideLemmas
 pub mod NumberLemmas
 pub mod LineLemmas
 pub mod CombinationLemmas
+pub mod RatioLemmas
+pub mod LeastLemmas
+pub mod LeastLineLemmas
+pub mod LeastRatioLemmas

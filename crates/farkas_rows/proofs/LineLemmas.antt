@@ -301,3 +301,16 @@ ComesToNegative-zero columns times inequalities total bound dense s refuted =
       All-from_get_or (λ number. number ≡ pos 0) total (pos 0) (λ j lt. sym (combination-total columns times inequalities total bound dense s j (omega (arith, s.long))) ∙ ap (λ (t : List ℤ). get_or t j (pos 0)) refuted.vanishes ∙ Matrices.zeros-at integers columns j),
       subst (λ t. t <ℤ pos 0) (sym s.limit) refuted.negative,
     )
+
+-- ---- a multiplier is at most the weight of its line
+
+-- of multipliers that are at least 1
+pub multipliers_within : (times : List ℤ) (inequalities : List Inequality) (bound : ℤ) → length times ≡ length inequalities → All (λ number. pos 1 ≤ℤ number) times → dot integers times (weights inequalities) ≤ℤ bound → All (λ number. number ≤ℤ bound) times
+multipliers_within [] inequalities bound e h light = All-nil _
+multipliers_within (m ∷ times) [] bound e h light = absurd (omega arith)
+multipliers_within (m ∷ times) (q ∷ inequalities) bound e h light =
+    let one : pos 1 ≤ℤ m = All-head (λ number. pos 1 ≤ℤ number) m times h in
+    let rest = All-tail (λ number. pos 1 ≤ℤ number) m times h in
+    let others : pos 0 ≤ℤ dot integers times (weights inequalities) = weight_nonneg times inequalities (All-weaker (λ number. pos 1 ≤ℤ number) (λ number. pos 0 ≤ℤ number) (λ number one. omega linear) times rest) in
+    let once : (m *ℤ pos 1) ≤ℤ (m *ℤ pos (inequality_weight q)) = mul_le m (pos 1) (pos (inequality_weight q)) (omega linear) (omega linear) in
+    All-cons (λ number. number ≤ℤ bound) m times (omega (linear, others, once, light)) (multipliers_within times inequalities bound (omega arith) rest (omega (linear, others, once, light, one)))

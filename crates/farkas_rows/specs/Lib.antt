@@ -6,3 +6,5 @@ pub mod Judgement
 pub mod Sides
 pub mod EachInequality
 pub mod NodeLaws
+pub mod LeastLine
+pub mod LineStops

@@ -2,6 +2,9 @@
 #![tactic(auto)]
 
 mod combination;
+#[cfg(test)]
+mod frac_tests;
+mod fracs;
 mod judge;
 mod laws;
 mod line;
@@ -10,6 +13,7 @@ mod path;
 mod side;
 
 pub use combination::Combination;
+pub use fracs::{CutFrac, FracUse, LineStop, OriginalTimes, from_fracs};
 pub use judge::{refutes, weigh};
 pub use laws::refuted_node_has_no_point;
 pub use line::{CutUse, End, Line, Use, Uses, Weight};
