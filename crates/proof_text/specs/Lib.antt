@@ -6,3 +6,5 @@ pub mod WordLaws
 pub mod Lent
 pub mod Numbers
 pub mod NumberLaws
+pub mod Items
+pub mod TokenLaws
