@@ -1,5 +1,5 @@
 -- What is read of a word with a colon is what it spells.
-use Rattle.std.proofs.Common.{◌≡◌, ◌≢◌, ℕ, suc, ◌^◌, ◌<◌, ◌≤◌, ℤ, pos, negsuc, neg_ℤ, ◌≤ℤ◌, ◌<ℤ◌, List, [], ◌∷◌, ◌++◌, All, decimal, refl, sym, ap, subst, ◌∙◌, arith}
+use Rattle.std.proofs.Common.{◌≡◌, ◌≢◌, ℕ, ◌^◌, ◌<◌, ◌≤◌, ℤ, pos, neg_ℤ, ◌≤ℤ◌, ◌<ℤ◌, List, ◌∷◌, ◌++◌, All, decimal, sym, subst, ◌∙◌, arith}
 use Rattle.std.specs.Fmt.{signed_decimal}
 use Rattle.std.proofs.lemmas.Int.{ints}
 use Rattle.std.proofs.lemmas.List.Elements.{All-head}
@@ -10,7 +10,6 @@ use Rattle.proof_text.specs.declared.items.Item.TheVariants as items
 use Rattle.proof_text.specs.declared.items.Factor.{Factor}
 use Rattle.proof_text.specs.Shapes.{IsToken, IsDigit, IsPair}
 use Rattle.proof_text.specs.Printable.{IsMultiplier}
-use Rattle.proof_text.specs.Spelling.{pair}
 use Rattle.proof_text.specs.Lent.{IsPairOf}
 use Rattle.proof_text.specs.Numbers.{SpellsSize, SpellsNumber}
 use Rattle.proof_text.specs.NumberLaws.{decimal-digits, decimal-same}

@@ -8,3 +8,5 @@ pub mod Numbers
 pub mod NumberLaws
 pub mod Items
 pub mod TokenLaws
+pub mod PrintedShapes
+pub mod LineLengths

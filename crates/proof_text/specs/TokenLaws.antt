@@ -1,8 +1,8 @@
 -- Spelled numbers are tokens, and what is printed of a line has the shape of one.
-use Rattle.std.proofs.Common.{◌≡◌, ◌≢◌, ℕ, zero, suc, ◌^◌, ◌<◌, ◌≤◌, ℤ, pos, negsuc, List, [], ◌∷◌, ◌++◌, All, codes, decimal, refl, sym, ap, subst, ◌∙◌, arith, inl, inr, ⊎_elim}
+use Rattle.std.proofs.Common.{◌≡◌, ◌≢◌, ℕ, suc, ◌^◌, ◌<◌, ◌≤◌, ℤ, pos, negsuc, List, [], ◌∷◌, All, codes, decimal, refl, sym, ap, arith, inl, inr, ⊎_elim}
 use Rattle.std.specs.Fmt.{signed_decimal}
 use Rattle.std.proofs.lemmas.Int.{ints}
-use Rattle.std.proofs.lemmas.List.Elements.{All-nil, All-cons, All-weaker}
+use Rattle.std.proofs.lemmas.List.Elements.{All-cons, All-weaker}
 use Rattle.proof_tree.specs.Trees.{IsOfSize}
 use Rattle.proof_text.specs.Shapes.{IsToken, IsDigit, IsDigitsWord, IsNumberWord}
 use Rattle.proof_text.specs.Numbers.{continued, IsPlainWord}
@@ -11,7 +11,7 @@ use Rattle.proof_text.specs.NumberLaws.{decimal-is_plain, decimal-digits, decima
 abbrev NoMark : ℕ → Type 0
 NoMark byte = (byte ≢ 32) × (byte ≢ 58)
 
-digits_token : (digits : List ℕ) → All IsDigit digits → All NoMark digits
+pub digits_token : (digits : List ℕ) → All IsDigit digits → All NoMark digits
 digits_token digits h = All-weaker IsDigit NoMark (λ byte d. (λ e. omega (arith, d.0, e), λ e. omega (arith, d.1, e))) digits h
 
 plain_some : (word : List ℕ) → IsPlainWord word → word ≢ []

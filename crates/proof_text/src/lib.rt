@@ -15,3 +15,6 @@ pub use print::{Text, print_head, print_record};
 pub use sequence::NoMemory;
 pub use shapes::{Pair, SplitWords, cut_pair, numbers_behind, pairs_behind, split_words};
 pub use words::Words;
+
+#[cfg(test)]
+mod tests;
