@@ -1,6 +1,5 @@
 -- The shape of a line is that of its words.
-use Rattle.std.proofs.Common.{◌≡◌, ◌≢◌, ℕ, ◌+◌, ◌<◌, List, [], ◌∷◌, ◌++◌, length, All, Bool, true, false, IsTrue, ◌↔◌, not, ⊎_elim, codes, refl, sym, ap, subst, ◌∙◌, arith}
-use Rattle.std.specs.Prelude.{if◌then◌else◌}
+use Rattle.std.proofs.Common.{◌≡◌, ◌≢◌, ℕ, List, [], ◌∷◌, ◌++◌, length, All, Bool, true, false, IsTrue, ◌↔◌, not, ⊎_elim, codes, refl, sym, ap, subst, ◌∙◌, arith}
 use Rattle.std.specs.List.{list_all}
 use Rattle.std.proofs.lemmas.Bool.{and_parts, eqb-false, not-true}
 use Rattle.std.proofs.lemmas.List.Elements.{All-nil, All-cons, All-head, All-tail, All-append, All-weaker}
@@ -31,13 +30,13 @@ no_colon (byte ∷ first) second h = no_colon first second (All-tail (λ other. 
 pub no_pair : (word : List ℕ) → IsFreeOf 58 word → IsPair word → ⊥
 no_pair word free p = no_colon p.0 p.1 (subst (IsFreeOf 58) p.2 free)
 
-token_free : (word : List ℕ) → IsToken word → IsFreeOf 58 word
+pub token_free : (word : List ℕ) → IsToken word → IsFreeOf 58 word
 token_free word t = All-weaker (λ byte. (byte ≢ 32) × (byte ≢ 58)) (λ byte. byte ≢ 58) (λ byte both. both.1) word t.1
 
 token_word : (word : List ℕ) → IsToken word → IsWord word
 token_word word t = All-weaker (λ byte. (byte ≢ 32) × (byte ≢ 58)) (λ byte. byte ≢ 32) (λ byte both. both.0) word t.1
 
-same_cut : (front first back second : List ℕ) → IsFreeOf 58 front → IsFreeOf 58 first → front ++ 58 ∷ back ≡ first ++ 58 ∷ second → (front ≡ first) × (back ≡ second)
+pub same_cut : (front first back second : List ℕ) → IsFreeOf 58 front → IsFreeOf 58 first → front ++ 58 ∷ back ≡ first ++ 58 ∷ second → (front ≡ first) × (back ≡ second)
 same_cut [] [] back second h k e = (refl, cc)
 same_cut [] (byte ∷ first) back second h k e = absurd (All-head (λ other. other ≢ 58) byte first k (cc))
 same_cut (byte ∷ front) [] back second h k e = absurd (All-head (λ other. other ≢ 58) byte front h (cc))

@@ -6,3 +6,7 @@ pub mod WordLaws
 pub mod Lent
 pub mod Numbers
 pub mod NumberLaws
+pub mod Items
+pub mod TokenLaws
+pub mod PrintedShapes
+pub mod LineLengths

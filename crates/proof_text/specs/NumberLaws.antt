@@ -1,9 +1,8 @@
 -- Decimal digits spell one number, and a number has one spelling.
-use Rattle.std.proofs.Common.{◌≡◌, ◌≢◌, ℕ, zero, suc, ◌+◌, ◌-◌, ◌*◌, ◌/◌, ◌%◌, ◌^◌, ◌<◌, ◌≤◌, ℤ, pos, negsuc, List, [], ◌∷◌, ◌++◌, length, All, codes, decimal, refl, sym, ap, subst, ◌∙◌, append-nil, append_assoc, arith, inl, inr, ⊎_elim}
-use Rattle.std.specs.Fmt.{signed_decimal}
+use Rattle.std.proofs.Common.{◌≡◌, ◌≢◌, ℕ, zero, suc, ◌+◌, ◌-◌, ◌*◌, ◌/◌, ◌%◌, ◌^◌, ◌<◌, ◌≤◌, List, [], ◌∷◌, ◌++◌, All, codes, decimal, refl, sym, ap, subst, ◌∙◌, append-nil, append_assoc, arith, inl, inr, ⊎_elim}
 use Rattle.std.proofs.lemmas.Fmt.{decimal_digit, decimal_step_wide, decimal_by_steps_wide}
-use Rattle.std.proofs.lemmas.List.Elements.{All-nil, All-cons, All-head, All-tail, All-append, All-push}
-use Rattle.proof_text.specs.Shapes.{IsDigit, IsDigitsWord, IsNumberWord}
+use Rattle.std.proofs.lemmas.List.Elements.{All-nil, All-cons, All-head, All-tail, All-push}
+use Rattle.proof_text.specs.Shapes.{IsDigit, IsDigitsWord}
 use Rattle.proof_text.specs.Numbers.{continued, IsPlainWord}
 
 -- ---- a number, spelled and read

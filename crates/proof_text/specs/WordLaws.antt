@@ -1,9 +1,9 @@
 -- A line is its words in order, and words without blanks are those of their line.
 use Rattle.std.proofs.Common.{◌≡◌, ◌≢◌, ℕ, false, List, [], ◌∷◌, ◌++◌, All, refl, sym, ap, ◌∙◌, append-nil, ne_eqb}
-use Rattle.std.specs.List.{slice_split, join_with_byte}
+use Rattle.std.specs.List.{join_with_byte}
 use Rattle.std.proofs.lemmas.List.Elements.{All-head, All-tail, All-weaker}
 use Rattle.std.proofs.lemmas.List.Splits.{slice_split_none, slice_split_at, join_with_byte-slice_split}
-use Rattle.proof_text.specs.Spelling.{further, in_words}
+use Rattle.proof_text.specs.Spelling.{in_words}
 use Rattle.proof_text.specs.Words.{is_blank, IsWord, words_of}
 
 words_joined : (words : List (List ℕ)) → in_words words ≡ join_with_byte 32 words

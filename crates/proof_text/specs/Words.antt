@@ -1,5 +1,5 @@
 -- The words of a line: what stands between its blanks.
-use Rattle.std.specs.Prelude.{◌≡◌, ◌≢◌, ℕ, Bool, ◌==◌, List, ◌∷◌, ◌++◌, All}
+use Rattle.std.specs.Prelude.{◌≢◌, ℕ, Bool, ◌==◌, List, All}
 use Rattle.std.specs.List.{slice_split}
 
 -- a blank is the byte 32

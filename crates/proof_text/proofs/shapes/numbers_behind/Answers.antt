@@ -1,4 +1,4 @@
-use Rattle.std.proofs.Common.{◌≡◌, ◌≢◌, ℕ, List, [], ◌∷◌, All, sym, ap, subst, ◌∙◌}
+use Rattle.std.proofs.Common.{◌≡◌, ◌∷◌, All, sym, subst}
 use Rattle.std.proofs.lemmas.Bool.{iff_false}
 use Rattle.proof_text.specs.Shapes.{IsNumberWord}
 use Rattle.proof_text.specs.Words.{words_of}

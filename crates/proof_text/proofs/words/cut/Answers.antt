@@ -1,4 +1,3 @@
-use Rattle.std.proofs.Common.{◌≡◌, List, ℕ, ◌∷◌, take, drop, ap, sym, ◌∙◌, subst}
 use Rattle.proof_text.proofs.CutWords.{none_there, parts_there}
 use Rattle.proof_text.proofs.words.cut.Goals as goal
 
