@@ -2,7 +2,6 @@ pub mod WorkedLines
 pub mod SideLemmas
 pub mod NumberLemmas
 pub mod LineLemmas
-pub mod CombinationLemmas
 pub mod RatioLemmas
 pub mod LeastLemmas
 pub mod LeastLineLemmas

@@ -59,7 +59,7 @@ abs_times (pos k) a h = ap pos (abs_mul (pos k) a)
 abs_times (negsuc k) a h = absurd (omega linear)
 
 -- one product
-pub times_le : (m a : ℤ) (w : ℕ) → pos 0 ≤ℤ m → nat_abs a ≤ w → pos (nat_abs (m *ℤ a)) ≤ℤ (m *ℤ pos w)
+times_le : (m a : ℤ) (w : ℕ) → pos 0 ≤ℤ m → nat_abs a ≤ w → pos (nat_abs (m *ℤ a)) ≤ℤ (m *ℤ pos w)
 times_le m a w h k = rw (abs_times m a h) (mul_le m (pos (nat_abs a)) (pos w) h (omega linear))
 
 -- a sum of products whose numbers are at most the weights

@@ -1,4 +1,3 @@
-pub mod Added
 pub mod Inequalities
 pub mod Ends
 pub mod Refutes

@@ -35,7 +35,7 @@ pub fn weigh<'a>(rows: &'a DenseRows, path: &'a Path, end: &'a End<'a>, line: &L
     let mut total = cut_weight(rows, &line.cut);
     let items = line.items.items();
     for item in items {
-        let weight = named_side(rows, path.items(), end, item.index).weight();
+        let weight = named_side(rows, path, end, item.index).weight();
         total = with_product(total, item.times, weight);
     }
     total
@@ -57,7 +57,7 @@ fn cut_weight(rows: &DenseRows, cut: &Option<CutUse>) -> Weight
 }
 
 /// A weight with a multiple of another one added.
-pub(crate) fn with_product(total: Weight, times: i128, weight: Weight) -> Weight
+fn with_product(total: Weight, times: i128, weight: Weight) -> Weight
     requires { pos 0 ≤ℤ times }
     ensures { (sum size : ℤ) → pos 0 ≤ℤ sum → pos 1 ≤ℤ size → IsWeight sum total → IsWeight size weight → IsWeight (sum +ℤ times *ℤ size) result }
 {
@@ -114,7 +114,7 @@ fn are_there<'a>(rows: &'a DenseRows, path: &'a Path, end: &'a End<'a>, items: &
     ensures { IsTrue result ↔ All (λ item. IsSome (inequality_at rows.now path.now (inequality_of end.now) item.index)) items.now }
 {
     for item in items {
-        if side_at(rows, path.items(), end, item.index).is_none() {
+        if side_at(rows, path, end, item.index).is_none() {
             return false;
         }
     }
@@ -173,13 +173,13 @@ fn comes_to_negative<'a>(
     let mut limit = add_cut(rows, &line.cut, sums);
     let items = line.items.items();
     for item in items {
-        limit += named_side(rows, path.items(), end, item.index).add_to(item.times, sums);
+        limit += named_side(rows, path, end, item.index).add_to(item.times, sums);
     }
     limit < 0 && are_zero(sums)
 }
 
 /// Whether each number is 0.
-pub(crate) fn are_zero(numbers: &[i128]) -> bool
+fn are_zero(numbers: &[i128]) -> bool
     ensures { IsTrue result ↔ All (λ number. number ≡ pos 0) numbers.now }
 {
     numbers.iter().all(|number| *number == 0)

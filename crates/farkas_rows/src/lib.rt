@@ -1,7 +1,6 @@
 //! Lines: combinations of a node's inequalities that show that no point is there.
 #![tactic(auto)]
 
-mod combination;
 #[cfg(test)]
 mod frac_tests;
 mod fracs;
@@ -12,7 +11,6 @@ mod node;
 mod path;
 mod side;
 
-pub use combination::Combination;
 pub use fracs::{CutFrac, FracUse, LineStop, OriginalTimes, from_fracs};
 pub use judge::{refutes, weigh};
 pub use laws::refuted_node_has_no_point;

@@ -7,7 +7,7 @@ ghost use Rattle.farkas_rows.specs.Refutes.{HasForms, IsDense, nothing};
 ghost use Rattle.farkas_rows.specs.Sides.{inequality_in, IsSideIn, side_of_row, side_of_form};
 
 use crate::line::End;
-use crate::path::Slice;
+use crate::path::{Path, Slice};
 use crate::side::{Bound, Factors, Side};
 use whole_rows::DenseRows;
 
@@ -15,7 +15,7 @@ use whole_rows::DenseRows;
 /// upper side of each comes first. There is none where a side is absent, or the number is too large.
 pub(crate) fn side_at<'a>(
     rows: &'a DenseRows,
-    path: &'a [Slice],
+    path: &'a Path,
     end: &'a End<'a>,
     number: u32,
 ) -> Option<Side<'a>>
@@ -34,10 +34,11 @@ pub(crate) fn side_at<'a>(
         return Some(column_side(rows, at, is_lower));
     }
     let at = at - rows.columns();
-    if at < path.len() {
-        return Some(slice_side(&path[at], is_lower));
+    let slices = path.items();
+    if at < slices.len() {
+        return Some(slice_side(&slices[at], is_lower));
     }
-    if at == path.len() && !is_lower {
+    if at == slices.len() && !is_lower {
         end_side(end)
     } else {
         None
@@ -47,7 +48,7 @@ pub(crate) fn side_at<'a>(
 /// The inequality of a number that names one.
 pub(crate) fn named_side<'a>(
     rows: &'a DenseRows,
-    path: &'a [Slice],
+    path: &'a Path,
     end: &'a End<'a>,
     number: u32,
 ) -> Side<'a>
