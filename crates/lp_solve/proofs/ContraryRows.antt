@@ -1,5 +1,5 @@
 -- The test's rows x <= 0 and -x <= -1 have no point.
-use Rattle.std.proofs.Common.{◌≡◌, ℕ, zero, suc, ℤ, pos, negsuc, ◌≤ℤ◌, List, [], ◌∷◌, length, refl, subst, arith, All}
+use Rattle.std.proofs.Common.{◌≡◌, zero, suc, ℤ, pos, negsuc, ◌≤ℤ◌, List, [], ◌∷◌, length, refl, subst, arith, All}
 use Rattle.std.proofs.lemmas.Int.{ints}
 use Rattle.exact_math.specs.Rational.{ℚ, whole, ◌+ℚ◌, ◌*ℚ◌, ◌≤ℚ◌}
 use Rattle.exact_math.specs.RationalOrder as Order

@@ -1,4 +1,4 @@
-use Rattle.std.proofs.Common.{◌≡◌, ℤ, pos, [], ◌∷◌, rules}
+use Rattle.std.proofs.Common.{◌≡◌, pos, [], ◌∷◌, rules}
 use Rattle.lp_solve.proofs.ContraryRows.{condition_from, bounded_from}
 use Rattle.lp_solve.proofs.tests.contrary_rows_have_no_point.Goals as goal
 
