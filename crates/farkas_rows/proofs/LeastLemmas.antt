@@ -1,25 +1,12 @@
 -- The least whole line: its multipliers by the ratios to the first one, and that every such line weighs as much at least.
-use Rattle.std.proofs.Common.{◌≡◌, ℕ, zero, suc, ◌+◌, ◌*◌, ◌/◌, ◌^◌, ◌<◌, ◌≤◌, List, [], ◌∷◌, ◌++◌, length, get_or, map, ℤ, pos, negsuc, ◌+ℤ◌, ◌*ℤ◌, ◌≤ℤ◌, ◌<ℤ◌, nat_abs, refl, sym, ap, ap₂, ◌∙◌, subst, arith, mul-pos, mul_comm, mul_assoc, ◌⊎◌, inl, inr}
-use Rattle.std.specs.Prelude.{Option, Some, None, All, option_map, option_to_list}
-use Rattle.std.specs.List.{AllZip}
-use Rattle.std.specs.Int.{◌∣◌}
-use Rattle.std.proofs.Math.Nat.{dvd-mul_left, dvd-mul_right, mul-div_cancel'}
-use Rattle.std.proofs.lemmas.Nat.Gcd.{le_of_dvd}
-use Rattle.std.proofs.lemmas.List.Elements.{All-nil, All-cons, All-head, All-tail}
-use Rattle.exact_math.specs.Gcd.{gcd}
-use Rattle.exact_math.specs.GcdLaws.{gcd_comm, dvd_from_product}
-use Rattle.exact_math.specs.Ring.{integers}
+use Rattle.std.proofs.Common.{◌≡◌, ℕ, ◌*◌, ◌<◌, ℤ, pos, ◌*ℤ◌, ◌≤ℤ◌, ◌<ℤ◌, refl, sym, ap, ap₂, ◌∙◌, subst, arith, mul-pos, ◌⊎◌, inl, inr}
 use Rattle.exact_math.specs.IntegerRing.{linear, expand}
 use Rattle.exact_math.specs.IntegerOrder as Order
 use Rattle.exact_math.specs.Rational.{ℚ, whole, frac, ◌*ℚ◌, ◌/ℚ◌, ◌<ℚ◌, ◌≤ℚ◌, inv_ℚ}
 use Rattle.exact_math.specs.RationalLaws as Rational
 use Rattle.exact_math.specs.RationalRing as Ring
 use Rattle.exact_math.specs.RationalOrder as Ordered
-use Rattle.frac128.specs.Range.{InRange}
-use Rattle.farkas_rows.specs.declared.fracs.FracUse.{FracUse}
-use Rattle.farkas_rows.specs.declared.fracs.CutFrac.{CutFrac}
-use Rattle.farkas_rows.specs.LeastLine.{IsInRatio, IsCommon, first_of, fractions}
-use Rattle.farkas_rows.proofs.RatioLemmas.{ratio_terms, ratio_positive, ratio_narrow}
+use Rattle.farkas_rows.specs.LeastLine.{IsInRatio}
 
 -- ---- positive fractions
 

@@ -1,17 +1,16 @@
 -- A least whole line is the only one, and how its multipliers are to the first one.
-use Rattle.std.proofs.Common.{◌≡◌, ℕ, zero, suc, ◌+◌, ◌*◌, ◌/◌, ◌^◌, ◌<◌, ◌≤◌, List, [], ◌∷◌, ◌++◌, length, get_or, map, ℤ, pos, negsuc, ◌+ℤ◌, ◌*ℤ◌, ◌≤ℤ◌, ◌<ℤ◌, nat_abs, refl, sym, ap, ap₂, ◌∙◌, subst, ⊎_elim, arith, mul_comm, mul_assoc}
-use Rattle.std.specs.Prelude.{Option, Some, None, All, option_map, option_to_list, unwrap_or}
+use Rattle.std.proofs.Common.{◌≡◌, ℕ, ◌*◌, ◌/◌, ◌^◌, ◌<◌, List, [], ◌∷◌, ◌++◌, map, ℤ, pos, ◌*ℤ◌, ◌≤ℤ◌, ◌<ℤ◌, nat_abs, refl, sym, ap, ap₂, ◌∙◌, subst, ⊎_elim, arith, mul_comm, mul_assoc}
+use Rattle.std.specs.Prelude.{Option, Some, None, All, option_map, unwrap_or}
 use Rattle.std.specs.List.{AllZip}
 use Rattle.std.specs.Int.{◌∣◌}
-use Rattle.std.proofs.Math.Nat.{dvd-mul_left, dvd-mul_right, mul-div_cancel', dvd_of_mul-dvd-mul_left}
-use Rattle.std.proofs.lemmas.Nat.Gcd.{le_of_dvd}
+use Rattle.std.proofs.Math.Nat.{dvd-mul_right, dvd_of_mul-dvd-mul_left}
 use Rattle.std.proofs.lemmas.List.Elements.{All-nil, All-cons, All-head, All-tail, All-weaker, All-map}
 use Rattle.exact_math.specs.Gcd.{gcd}
 use Rattle.exact_math.specs.GcdLaws.{gcd_comm, gcd_pos_left, gcd-mul-div_left, gcd-mul-div_right, gcd-quotients, dvd_from_product}
 use Rattle.exact_math.specs.Ring.{integers}
 use Rattle.exact_math.specs.IntegerRing.{linear, expand}
 use Rattle.exact_math.specs.IntegerOrder as Order
-use Rattle.exact_math.specs.Rational.{ℚ, whole, frac, ◌*ℚ◌, ◌/ℚ◌, ◌<ℚ◌}
+use Rattle.exact_math.specs.Rational.{ℚ, whole, ◌*ℚ◌, ◌<ℚ◌}
 use Rattle.exact_math.specs.RationalRing as Ring
 use Rattle.exact_math.specs.RationalOrder as Ordered
 use Rattle.exact_vectors.specs.Vectors.{dot}

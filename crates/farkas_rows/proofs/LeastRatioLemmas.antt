@@ -1,9 +1,9 @@
 -- The multipliers of a least whole line by their ratios to the first one, both ways.
-use Rattle.std.proofs.Common.{◌≡◌, ℕ, zero, suc, ◌+◌, ◌*◌, ◌/◌, ◌^◌, ◌<◌, ◌≤◌, List, [], ◌∷◌, ◌++◌, length, get_or, map, ℤ, pos, negsuc, ◌+ℤ◌, ◌*ℤ◌, ◌≤ℤ◌, ◌<ℤ◌, nat_abs, refl, sym, ap, ap₂, ◌∙◌, subst, arith, mul_comm, mul_assoc}
-use Rattle.std.specs.Prelude.{Option, Some, None, All, option_map, option_to_list}
+use Rattle.std.proofs.Common.{◌≡◌, ℕ, zero, suc, ◌*◌, ◌/◌, ◌^◌, ◌<◌, ◌≤◌, List, [], ◌∷◌, map, ℤ, pos, ◌*ℤ◌, ◌≤ℤ◌, ◌<ℤ◌, nat_abs, refl, sym, ap, ◌∙◌, subst, arith, mul_comm, mul_assoc}
+use Rattle.std.specs.Prelude.{Option, Some, None, All, option_map}
 use Rattle.std.specs.List.{AllZip}
 use Rattle.std.specs.Int.{◌∣◌}
-use Rattle.std.proofs.Math.Nat.{dvd-mul_left, dvd-mul_right, mul-div_cancel', dvd_of_mul-dvd-mul_left, mul-le-mul_left}
+use Rattle.std.proofs.Math.Nat.{dvd-mul_right, mul-div_cancel', dvd_of_mul-dvd-mul_left, mul-le-mul_left}
 use Rattle.std.proofs.lemmas.Nat.Gcd.{le_of_dvd}
 use Rattle.std.proofs.lemmas.List.Elements.{All-nil, All-cons, All-head, All-tail}
 use Rattle.exact_math.specs.GcdLaws.{gcd_comm, dvd_from_product}
@@ -20,8 +20,8 @@ use Rattle.farkas_rows.specs.declared.line.Use.{Use}
 use Rattle.farkas_rows.specs.declared.line.CutUse.{CutUse}
 use Rattle.farkas_rows.specs.declared.line.Line.{Line}
 use Rattle.farkas_rows.specs.Refutes.{multipliers}
-use Rattle.farkas_rows.specs.LeastLine.{IsInRatio, IsCommon, IsLeastWhole, IsLeastLine, fractions, first_of, cut_with}
-use Rattle.farkas_rows.proofs.RatioLemmas.{ratio_terms, ratio_positive, ratio_narrow, above_zero}
+use Rattle.farkas_rows.specs.LeastLine.{IsInRatio, IsCommon, IsLeastLine, fractions, first_of, cut_with}
+use Rattle.farkas_rows.proofs.RatioLemmas.{ratio_terms, ratio_positive, ratio_narrow}
 use Rattle.farkas_rows.proofs.LeastLemmas.{num_nonzero, quotient_positive, ratio_of_factor, factor_of_ratio, ratio_of_first, whole_num}
 use Rattle.farkas_rows.proofs.LeastLineLemmas.{multiple_positive}
 

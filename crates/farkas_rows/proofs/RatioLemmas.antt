@@ -1,20 +1,20 @@
 -- Whole numbers that are to one another as fractions.
-use Rattle.std.proofs.Common.{◌≡◌, ℕ, zero, suc, ◌+◌, ◌*◌, ◌/◌, ◌^◌, ◌<◌, ◌≤◌, List, [], ◌∷◌, ◌++◌, length, get_or, take, map, ℤ, pos, negsuc, ◌+ℤ◌, ◌*ℤ◌, ◌≤ℤ◌, ◌<ℤ◌, int_div, nat_abs, refl, sym, ap, ◌∙◌, subst, arith, mul_comm, FitsSigned, Option, Some, None}
+use Rattle.std.proofs.Common.{◌≡◌, ℕ, zero, suc, ◌+◌, ◌*◌, ◌/◌, ◌^◌, ◌<◌, List, [], ◌∷◌, ◌++◌, length, get_or, take, map, ℤ, pos, negsuc, ◌*ℤ◌, ◌≤ℤ◌, ◌<ℤ◌, int_div, nat_abs, refl, sym, ap, ◌∙◌, subst, arith, mul_comm, FitsSigned, Option, Some, None}
 use Rattle.std.specs.Prelude.{All, SomeIff, IfSome, IfNone}
 use Rattle.std.proofs.lemmas.Int.{fits_signed_from_abs}
 use Rattle.std.specs.Int.{w128, ◌∣◌}
-use Rattle.std.proofs.Math.Nat.{dvd-mul_left, dvd-mul_right, mul-div_cancel', one-dvd, dvd_trans}
-use Rattle.std.proofs.lemmas.Nat.Gcd.{le_of_dvd, dvd_refl}
+use Rattle.std.proofs.Math.Nat.{dvd-mul_left, mul-div_cancel', one-dvd, dvd_trans}
+use Rattle.std.proofs.lemmas.Nat.Gcd.{le_of_dvd}
 use Rattle.std.proofs.lemmas.List.{take-take, get_or-take, length-take-le, take_more, map-append}
 use Rattle.std.proofs.lemmas.Slice.Zip.{all_zipped_more}
 use Rattle.std.specs.List.{AllZip}
-use Rattle.std.proofs.lemmas.List.Elements.{All-more, All-take, All-get_or, All-weaker}
+use Rattle.std.proofs.lemmas.List.Elements.{All-more, All-take, All-weaker}
 use Rattle.exact_math.specs.Gcd.{gcd, lcm}
 use Rattle.exact_math.specs.GcdLaws.{gcd_comm, gcd_pos_left, dvd_from_product}
 use Rattle.exact_math.specs.LcmLaws.{dvd_lcm_left, dvd_lcm_right, lcm_dvd, lcm_pos}
 use Rattle.exact_math.specs.IntegerRing.{linear, expand}
 use Rattle.exact_math.specs.IntegerOrder.{mul_le, mul_pos, le_of_mul_le, lt_of_mul_lt, abs_mul}
-use Rattle.exact_math.specs.Rational.{ℚ, whole, frac, ◌*ℚ◌, ◌/ℚ◌, ◌<ℚ◌}
+use Rattle.exact_math.specs.Rational.{ℚ}
 use Rattle.farkas_rows.specs.LeastLine.{IsCommon}
 use Rattle.exact_math.specs.RationalLaws.{terms_lowest, den_pos}
 

@@ -1,10 +1,8 @@
-use Rattle.std.proofs.Common.{rules, ◌≡◌, ℕ, ◌+◌, ◌<◌, List, pos, get_or, take, length, FitsSigned, nat_abs, to_z, sym, ap, subst, arith, refl, ◌∙◌}
-use Rattle.std.specs.Prelude.{All}
-use Rattle.std.specs.Int.{w128, ◌∣◌}
+use Rattle.std.proofs.Common.{rules, ◌≡◌, List, pos, get_or, FitsSigned, to_z, ap, subst, arith, ◌∙◌}
+use Rattle.std.specs.Int.{w128}
 use Rattle.std.proofs.lemmas.Int.{to_z-of_z}
 use Rattle.std.proofs.lemmas.List.{take_all}
 use Rattle.std.proofs.lemmas.List.Elements.{All-more}
-use Rattle.exact_math.specs.Gcd.{lcm}
 use Rattle.exact_math.specs.Rational.{ℚ, ◌/ℚ◌}
 use Rattle.exact_math.specs.RationalLaws.{den_pos}
 use Rattle.frac128.specs.Range.{InRange}

@@ -1,4 +1,4 @@
-use Rattle.std.proofs.Common.{ℕ, pos, ◌^◌, ◌<ℤ◌, subst, sym}
+use Rattle.std.proofs.Common.{ℕ, pos, ◌^◌, ◌<ℤ◌, subst}
 use Rattle.std.specs.Prelude.{IsSome}
 use Rattle.std.proofs.lemmas.Result.{err_from_is_err_and}
 use Rattle.farkas_rows.specs.Ends.{inequality_of}

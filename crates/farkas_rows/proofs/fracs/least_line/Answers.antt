@@ -1,5 +1,5 @@
-use Rattle.std.proofs.Common.{rules, ◌≡◌, ◌^◌, ◌<◌, ◌<ℤ◌, ◌≤ℤ◌, pos, nat_abs, FitsSigned, map, subst, sym, arith}
-use Rattle.std.specs.Int.{w128, ◌∣◌}
+use Rattle.std.proofs.Common.{rules, nat_abs, FitsSigned, map}
+use Rattle.std.specs.Int.{w128}
 use Rattle.std.proofs.lemmas.Int.{to_z-of_z}
 use Rattle.exact_math.specs.IntegerRing.{linear}
 use Rattle.exact_math.specs.Rational.{◌/ℚ◌}
@@ -7,7 +7,7 @@ use Rattle.std.proofs.lemmas.Result.{err_from_is_err_and}
 use Rattle.farkas_rows.proofs.RatioLemmas.{IsCommon-le}
 use Rattle.farkas_rows.specs.declared.fracs.FracUse.{FracUse}
 use Rattle.farkas_rows.specs.declared.line.Use.{Use}
-use Rattle.farkas_rows.specs.LeastLine.{IsCommon, first_of, fractions}
+use Rattle.farkas_rows.specs.LeastLine.{first_of}
 use Rattle.farkas_rows.proofs.LeastLemmas.{num_nonzero}
 use Rattle.farkas_rows.proofs.LeastRatioLemmas.{first_positive, items_positive, ratios_positive, narrow_ratios, quotients_narrow, IsLeastLine-of}
 use Rattle.farkas_rows.proofs.fracs.least_line.Goals as goal

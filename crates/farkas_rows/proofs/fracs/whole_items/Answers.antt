@@ -1,4 +1,4 @@
-use Rattle.std.proofs.Common.{rules, ◌≡◌, ◌^◌, ◌<◌, ◌<ℤ◌, List, length, get_or, take, map, pos, ℤ, FitsSigned, nat_abs, refl, sym, ap, ◌∙◌, subst, arith}
+use Rattle.std.proofs.Common.{rules, ◌^◌, ◌<ℤ◌, List, get_or, pos, ℤ, FitsSigned, nat_abs, sym, ap, subst}
 use Rattle.std.specs.List.{AllZip}
 use Rattle.std.specs.Int.{w128, ◌∣◌}
 use Rattle.std.proofs.lemmas.Int.{to_z-of_z}

@@ -1,4 +1,4 @@
-use Rattle.std.proofs.Common.{rules, ◌≡◌, pos, ◌*ℤ◌, ◌<ℤ◌, int_div, FitsSigned, ap, ◌∙◌, subst, sym}
+use Rattle.std.proofs.Common.{rules, ◌≡◌, pos, ◌<ℤ◌, int_div, FitsSigned, ap, ◌∙◌, subst, sym}
 use Rattle.std.specs.Int.{w128}
 use Rattle.std.proofs.lemmas.Int.{to_z-of_z, quot_fits}
 use Rattle.exact_math.specs.Rational.{ℚ, ◌/ℚ◌}
