@@ -8,7 +8,7 @@ COLUMNS
 RHS
  total 43
 BOUNDS
- UI six 100
- UI nine 100
- UI twenty 100
+ UI six 7
+ UI nine 4
+ UI twenty 2
 ENDATA
