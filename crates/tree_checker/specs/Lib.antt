@@ -1,0 +1,5 @@
+pub mod Accepts
+pub mod Stages
+pub mod Passes
+pub mod Faults
+pub mod Rejects
