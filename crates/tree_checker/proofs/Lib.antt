@@ -1,0 +1,4 @@
+pub mod Forests
+pub mod Completes
+pub mod Walks
+pub mod Texts

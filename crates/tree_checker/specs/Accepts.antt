@@ -1,5 +1,5 @@
 -- When a text shows that its claim is true.
-use Rattle.std.specs.Prelude.{◌≡◌, ℕ, ◌≤◌, ℤ, List, [], length, All, Option, Some, None}
+use Rattle.std.specs.Prelude.{ℕ, ◌≤◌, ℤ, List, [], length, All, Option, Some, None}
 use Rattle.whole_rows.specs.WholeRows.{WholeRows, Meets, HasLeastCutValue, cut_value}
 use Rattle.proof_tree.specs.declared.tree.Tree.{Tree}
 use Rattle.proof_tree.specs.Trees.{Holds}

@@ -1,13 +1,12 @@
 -- When a line passes at its place, and where the next one stands then.
-use Rattle.std.specs.Prelude.{◌≡◌, ◌⊎◌, ℕ, ◌+◌, ◌*◌, ◌^◌, ◌≤◌, ℤ, pos, ◌+ℤ◌, ◌≤ℤ◌, List, [], ◌∷◌, ◌++◌, length, codes, Option, Some, None}
+use Rattle.std.specs.Prelude.{◌≡◌, ◌⊎◌, ℕ, ◌+◌, ◌*◌, ◌^◌, ◌≤◌, pos, ◌+ℤ◌, ◌≤ℤ◌, List, [], ◌∷◌, length, codes, Option, Some, None}
 use Rattle.std.specs.Fmt.{signed_decimal}
 use Rattle.whole_rows.specs.WholeRows.{WholeRows}
 use Rattle.farkas_rows.specs.declared.line.Line.{Line}
-use Rattle.farkas_rows.specs.declared.path.Slice.{Slice}
 use Rattle.farkas_rows.specs.Inequalities.{Inequality, below, above}
 use Rattle.proof_tree.specs.Trees.{Closes, IsSplitForm, IsOfSize}
 use Rattle.proof_text.specs.declared.claim.Claim.{Claim}
-use Rattle.proof_text.specs.Spelling.{in_words, line_words, form_words, mark_word, claim_line}
+use Rattle.proof_text.specs.Spelling.{in_words, in_lines, line_words, form_words, mark_word, claim_line}
 use Rattle.tree_checker.specs.Accepts.{last_of, IsClaim, longest}
 use Rattle.tree_checker.specs.Stages.{OpenSplit, Opening, Stage, at_head, at_claim, at_node, at_below, at_above, at_done, at_end, path_of, behind, into}
 
@@ -49,3 +48,7 @@ PassesTo rows (at_end claimed) text next = ⊥
 abbrev pub PassTo : WholeRows → Stage → List (List ℕ) → Stage → Type 0
 PassTo rows from [] stage = from ≡ stage
 PassTo rows from (line ∷ lines) stage = (length line ≤ longest) × (next : Stage) × PassesTo rows from line next × PassTo rows next lines stage
+
+-- the lines of the text pass, from its head to its end
+abbrev pub PassesWhole : WholeRows → List ℕ → Claim → Type 0
+PassesWhole rows text claim = (lines : List (List ℕ)) × (text ≡ in_lines lines) × PassTo rows at_head lines (at_end claim)

@@ -1,5 +1,5 @@
 -- Where a line of a proof text stands.
-use Rattle.std.specs.Prelude.{ℕ, ℤ, pos, ◌+ℤ◌, if◌then◌else◌, List, [], ◌∷◌}
+use Rattle.std.specs.Prelude.{ℤ, pos, ◌+ℤ◌, if◌then◌else◌, List, [], ◌∷◌}
 use Rattle.std.specs.Ordering.{int_eq}
 use Rattle.farkas_rows.specs.declared.path.Slice.{Slice}
 use Rattle.proof_tree.specs.declared.tree.Mark.{Mark}
