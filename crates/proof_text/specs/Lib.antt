@@ -1,3 +1,4 @@
 pub mod Spelling
 pub mod Printable
 pub mod Shapes
+pub mod Lengths
