@@ -1,4 +1,13 @@
 pub mod Spelling
 pub mod Printable
 pub mod Shapes
-pub mod Lengths
+pub mod Words
+pub mod WordLaws
+pub mod Lent
+pub mod Numbers
+pub mod NumberLaws
+pub mod Items
+pub mod TokenLaws
+pub mod PrintedShapes
+pub mod LineLengths
+pub mod SplitLengths

@@ -46,3 +46,7 @@ pub record HasSplitShape (line : List ℕ) : Type 0 where
   pub is_lo : IsToken lo
   pub is_count : IsToken count
   pub pairs : ArePairs words
+
+-- `OPTIMAL` with some numbers, of any length
+abbrev pub HasPointShape : List ℕ → Type 0
+HasPointShape line = (words : List (List ℕ)) × (line ≡ in_words (codes "OPTIMAL" ∷ words)) × All IsNumberWord words

@@ -2,8 +2,19 @@
 #![tactic(auto)]
 
 mod claim;
+mod items;
+mod numbers;
 mod print;
+mod shapes;
+mod words;
 
 pub use claim::{Claim, Record};
+pub use items::{Factor, Item, read_between, read_factor, read_item};
+pub use numbers::{read_number, read_size};
 pub use print::{Text, print_head, print_record};
 pub use sequence::NoMemory;
+pub use shapes::{Pair, SplitWords, cut_pair, numbers_behind, pairs_behind, split_words};
+pub use words::Words;
+
+#[cfg(test)]
+mod tests;

@@ -21,7 +21,8 @@ use Rattle.proof_text.specs.declared.claim.Claim.{Claim}
 use Rattle.proof_text.specs.declared.claim.Claim.TheVariants as claims
 use Rattle.proof_text.specs.Spelling.{in_words, line_words, claim_line, head_lines, tree_lines, forest_lines, closing_line, split_line, below_line, above_line, split_lines, proof_text}
 use Rattle.proof_text.specs.Printable.{IsPrintableLine, IsPrintableCut, IsPrintableTree, ArePrintableTrees, IsPrintableClaim}
-use Rattle.proof_text.specs.Lengths.{line_short, split_short, claim_short}
+use Rattle.proof_text.specs.LineLengths.{printed_line-length}
+use Rattle.proof_text.specs.SplitLengths.{split_short, claim_short}
 use Rattle.tree_checker.specs.Accepts.{longest, last_of, IsClaim, HasShortLines, Accepts}
 
 -- ---- what holds can be printed
@@ -102,7 +103,7 @@ IsShortLine line = length line ≤ longest
 
 module _ (rows : WholeRows) (last : Option ℤ) (limits : IsWithinLimits rows) where
   short_closing : (path : List Slice) (end : Option Inequality) (first : ℕ) (line : Line) → length path ≤ 2 * length rows.box → Closes rows last path end line → IsShortLine (in_words ((first ∷ []) ∷ line_words line))
-  short_closing path end first line short closes = line_short rows path end limits.few_columns limits.few_rows short first line (line_printable rows last path end line closes)
+  short_closing path end first line short closes = printed_line-length rows path end first line limits.few_rows limits.few_columns short (line_printable rows last path end line closes)
 
   short_split : (path : List Slice) (cut : Cut) → length path ≤ 2 * length rows.box → IsSplit rows last path cut → HasShortLines (split_lines cut)
   short_split path cut short split =

@@ -1,5 +1,4 @@
-use Rattle.std.proofs.Common.{rules, append_assoc, to_z-of_z, SFits, refl, ◌≡◌, ap, ◌++◌, ◌∷◌}
-use Rattle.std.specs.Fmt.{signed_decimal}
+use Rattle.std.proofs.Common.{rules, append_assoc, to_z-of_z, SFits, refl}
 use mir.Syntax.{w128}
 use Rattle.proof_text.proofs.print.push_split_line.Goals as goal
 
