@@ -45,8 +45,6 @@ pub enum FaultKind {
     TooManyColumns,
     /// The text ends before ENDATA.
     NoEnd,
-    /// The model has an objective, which is not searched yet. No text means this fault.
-    Unbuilt,
 }
 
 /// A fault and the number of its line, from 1; for a text without ENDATA, the number of its lines.

@@ -121,7 +121,7 @@ module _ (given : Given) (now : Faults) (status : Status) (lines : List (List 鈩
     ends = 位 command text model spelled told small calm.
         let given_lines = gives given status lines judges command text spelled told in
         鈯巁elim (位 decided. inl decided) (位 spent. inr (inl spent)) (ends command.options text model status given_lines.0 small given_lines.1);
-    enough = 位 command text model spelled told small enough calm. 
+    enough = 位 command text model spelled told small enough calm.
         let given_lines = gives given status lines judges command text spelled told in
         inl (decides command.options text model status given_lines.0 small enough given_lines.1);
   }

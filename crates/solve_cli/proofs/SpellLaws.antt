@@ -135,7 +135,6 @@ written_options (Fixed ∷ options) range =
 written_options (Upper b ∷ options) range =
     valued_front (codes "--upper") (signed_decimal b) (flat_map option_words options) (Upper b) refl (written_bound b (All-head IsOption (Upper b) options range))
     ∙ ap (option_map (λ more. Upper b ∷ more)) (written_options options (All-tail IsOption (Upper b) options range))
-
 written_options (Nodes n ∷ options) range =
     valued_front (codes "--nodes") (decimal n) (flat_map option_words options) (Nodes n) refl (written_nodes n (All-head IsOption (Nodes n) options range))
     ∙ ap (option_map (λ more. Nodes n ∷ more)) (written_options options (All-tail IsOption (Nodes n) options range))

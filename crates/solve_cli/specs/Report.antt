@@ -86,7 +86,6 @@ name_of faults.NegativeUpper = codes "NegativeUpper"
 name_of faults.TooManyRows = codes "TooManyRows"
 name_of faults.TooManyColumns = codes "TooManyColumns"
 name_of faults.NoEnd = codes "NoEnd"
-name_of faults.Unbuilt = codes "Unbuilt"
 
 -- the line of a fault: its kind and the number of its line
 abbrev pub text_line : TextFault → List ℕ

@@ -173,7 +173,6 @@ fn kind_name(kind: FaultKind) -> &'static str
         FaultKind::TooManyRows => "TooManyRows",
         FaultKind::TooManyColumns => "TooManyColumns",
         FaultKind::NoEnd => "NoEnd",
-        FaultKind::Unbuilt => "Unbuilt",
     }
 }
 

@@ -29,11 +29,7 @@ fn search_rows(alloc: Global, rows: &DenseRows, nodes: u32) -> Result<Searched, 
 }
 
 /// Searches a model with a budget of so many nodes.
-pub(crate) fn search_model(
-    alloc: Global,
-    model: &Model,
-    nodes: u32,
-) -> Result<Reply, NoMemory>
+pub(crate) fn search_model(alloc: Global, model: &Model, nodes: u32) -> Result<Reply, NoMemory>
     requires limits { KeepsLimits model.now }
     requires some { 1 ≤ nodes }
     ensures { IfOk result (Replies (Solves nodes model.now)) }
