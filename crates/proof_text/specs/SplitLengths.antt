@@ -59,10 +59,18 @@ split_short rows path cut few printable =
     let lo = signed_short cut.lo printable.lo in
     let count = count_short cut.count printable.count in
     let rest : List ℕ = further (form_words 0 cut.form) in
-    omega (arith, few, printable.dense, form, lo, count, mark_length cut.mark,
-    length-append (32 ∷ mark_word cut.mark) ((32 ∷ signed_decimal cut.lo) ++ ((32 ∷ signed_decimal cut.count) ++ rest)),
-    length-append (32 ∷ signed_decimal cut.lo) ((32 ∷ signed_decimal cut.count) ++ rest),
-    length-append (32 ∷ signed_decimal cut.count) rest)
+    omega (
+      arith,
+      few,
+      printable.dense,
+      form,
+      lo,
+      count,
+      mark_length cut.mark,
+      length-append (32 ∷ mark_word cut.mark) ((32 ∷ signed_decimal cut.lo) ++ ((32 ∷ signed_decimal cut.count) ++ rest)),
+      length-append (32 ∷ signed_decimal cut.lo) ((32 ∷ signed_decimal cut.count) ++ rest),
+      length-append (32 ∷ signed_decimal cut.count) rest,
+    )
 
 -- ---- the claim
 

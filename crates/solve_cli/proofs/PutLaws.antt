@@ -1,8 +1,9 @@
 -- Bytes that are put piece by piece, and a tree's children one after another.
-use Rattle.std.proofs.Common.{◌≡◌, ◌≤◌, ℕ, List, [], ◌∷◌, ◌++◌, Option, Some, None, refl, sym, ap, ◌∙◌, append_assoc, append-nil, subst, arith, Global, drop}
+use Rattle.std.proofs.Common.{◌≡◌, ◌≤◌, ◌<◌, ◌+◌, suc, length, get_or, ℕ, List, [], ◌∷◌, ◌++◌, Option, Some, None, refl, sym, ap, ◌∙◌, append_assoc, append-nil, subst, arith, Global, drop}
 use Rattle.std.specs.Prelude.{option_map, Result, Ok, Err, flat_map}
 use Rattle.std.specs.declared.boxed.Box.{Box}
 use Rattle.std.proofs.lemmas.Grind.{flat_map-append}
+use Rattle.std.proofs.Math.Seq.{drop-cons}
 use Rattle.desk_io.specs.Desk.{appended, AppendsSome, Rose}
 use Rattle.desk_io.specs.AppendLaws.{appended_twice, appends_after, appends_front, appends_none}
 use Rattle.desk_io.specs.declared.desk.DeskStop.{DeskStop}
@@ -117,3 +118,24 @@ lines-part_split split =
     lines_append (split_lines split.value.cut) (parts_lines (part_block.hidden-the_row-PartTree-0 split.value.children))
     ∙ ap (λ bytes. in_lines (split_lines split.value.cut) ++ bytes)
     (lines-parts (part_block.hidden-the_row-PartTree-0 split.value.children) ∙ ap (flat_map (λ (child : part.PartTree). in_lines (part_lines child))) (part.items_hidden-the_row-PartTree-0 split.value.children))
+
+-- the lines in front, those of the nodes, and the last line
+pub lines_parts : (head lines : List (List ℕ)) (last : List ℕ) → in_lines (head ++ (lines ++ last ∷ [])) ≡ in_lines head ++ (in_lines lines ++ (last ++ 10 ∷ []))
+lines_parts head lines last =
+    lines_append head (lines ++ last ∷ [])
+    ∙ ap (λ bytes. in_lines head ++ bytes) (lines_append lines (last ∷ []) ∙ ap (λ bytes. in_lines lines ++ bytes) (append-nil (last ++ 10 ∷ [])))
+
+-- ---- children
+
+-- one child more
+pub next_child : {X : Type 0} (bytes_of : X → List ℕ) (children : List X) (i : ℕ) (child : X) (front whole : List ℕ) → child ≡ get_or children i child → i < length children
+    → front ++ flat_map bytes_of (drop i children) ≡ whole → front ++ (bytes_of child ++ flat_map bytes_of (drop (i + 1) children)) ≡ whole
+next_child bytes_of children i child front whole is lt e =
+    let more : i + 1 ≡ suc i = omega arith in
+    let here : drop i children ≡ child ∷ drop (i + 1) children = drop-cons children i child lt ∙ ap (λ c. c ∷ drop (suc i) children) (sym is) ∙ ap (λ n. child ∷ drop n children) (sym more) in
+    ap (λ bytes. front ++ bytes) (sym (ap (flat_map bytes_of) here)) ∙ e
+
+-- ---- the same bytes, written another way
+
+pub put_as : (name bytes other : List ℕ) (result : Result (Unit {0}) DeskStop) (old new : Told) → other ≡ bytes → IsPut name bytes result old new → IsPut name other result old new
+put_as name bytes other result old new e put = subst (λ b. IsPut name b result old new) (sym e) put

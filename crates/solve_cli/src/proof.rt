@@ -38,12 +38,7 @@ fn put_record<D: Desk>(
 }
 
 // Puts the lines of a tree, a node at a time.
-fn put_tree<D: Desk>(
-    alloc: Global,
-    desk: &mut D,
-    name: &str,
-    tree: &Tree,
-) -> Result<(), DeskStop>
+fn put_tree<D: Desk>(alloc: Global, desk: &mut D, name: &str, tree: &Tree) -> Result<(), DeskStop>
     requires { length name.now ≤ 255 }
     ensures { IsPut name.now (in_lines (tree_lines tree.now)) result
         (told_by (D.left desk.old) (D.written desk.old) (D.said desk.old) (desk_faults (D.faults desk.old) (D.fault_at desk.old)))
@@ -87,12 +82,7 @@ fn put_part<D: Desk>(
 }
 
 // Puts the head of a claim.
-fn put_head<D: Desk>(
-    alloc: Global,
-    desk: &mut D,
-    name: &str,
-    claim: &Claim,
-) -> Result<(), DeskStop>
+fn put_head<D: Desk>(alloc: Global, desk: &mut D, name: &str, claim: &Claim) -> Result<(), DeskStop>
     requires { length name.now ≤ 255 }
     ensures { IsPut name.now (in_lines (head_lines claim.now)) result
         (told_by (D.left desk.old) (D.written desk.old) (D.said desk.old) (desk_faults (D.faults desk.old) (D.fault_at desk.old)))
