@@ -10,3 +10,4 @@ pub mod Items
 pub mod TokenLaws
 pub mod PrintedShapes
 pub mod LineLengths
+pub mod SplitLengths

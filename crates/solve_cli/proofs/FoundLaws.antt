@@ -3,7 +3,7 @@ use Rattle.std.proofs.Common.{◌≡◌, ℕ, ◌+◌, ◌*◌, ◌^◌, ◌<◌
 use Rattle.std.specs.Prelude.{◌↔◌, Option, Some, None, IfSome, codes}
 use Rattle.std.proofs.lemmas.List.{length-map}
 use Rattle.exact_math.specs.Rational.{ℚ}
-use Rattle.whole_rows.specs.WholeRows.{Meets, HasLeastCutValue}
+use Rattle.whole_rows.specs.WholeRows.{Meets, HasLeastCutValue, IsWithinLimits}
 use Rattle.proof_tree.specs.declared.tree.Tree.{Tree}
 use Rattle.proof_tree.specs.declared.tree.PartTree.{PartTree}
 use Rattle.proof_tree.specs.Counts.{records, plain_splits, plain_splits_of_part, records_of_part}
@@ -14,10 +14,14 @@ use Rattle.int_model.specs.declared.model.Model.{Model}
 use Rattle.int_model.specs.IntegerRows.{rounded_bounds}
 use Rattle.int_model.specs.Points.{IsPoint, IsBest, value_at}
 use Rattle.int_model.specs.Large.{HasNoLargePart}
+use Rattle.proof_text.specs.declared.claim.Claim.TheVariants as claims
+use Rattle.proof_text.specs.Spelling.{proof_text, part_text}
+use Rattle.tree_checker.specs.Written.{written_accepted}
 use Rattle.solve_cli.specs.Report.{bare_lines, found_lines}
+use Rattle.solve_cli.specs.Outputs.{with_proof}
 use Rattle.solve_cli.specs.Verdict.{rows_of, enough_nodes, FindsBest, FindsNone, SpendsBudget}
 
-module _ (nodes : ℕ) (model : Model) (small : HasNoLargePart model) (points : (x : List ℤ) → IsPoint model x ↔ Meets (rows_of model) x) where
+module _ (nodes : ℕ) (model : Model) (small : HasNoLargePart model) (points : (x : List ℤ) → IsPoint model x ↔ Meets (rows_of model) x) (limits : IsWithinLimits (rows_of model)) where
   abbrev pub IsTree : Tree → Option (List ℤ) → Type 0
   IsTree = IsDone (IsPlainAnswer (rows_of model)) (rows_of model) true nodes
 
@@ -32,7 +36,7 @@ module _ (nodes : ℕ) (model : Model) (small : HasNoLargePart model) (points : 
   bare_same head a b c d f g = rw (f, g) refl
 
   pub finds_best : ((x : List ℤ) → IsBest model x ↔ HasLeastCutValue (rows_of model) x) → (tree : Tree) (point : List ℤ) (value : ℚ) (a b : ℕ) → IsTree tree (Some point)
-      → value ≡ value_at model point → a ≡ records tree → b ≡ plain_splits tree → FindsBest nodes model (found_lines (codes "OPTIMAL") value model.columns point a b)
+      → value ≡ value_at model point → a ≡ records tree → b ≡ plain_splits tree → FindsBest nodes model (with_proof (found_lines (codes "OPTIMAL") value model.columns point a b) (proof_text (claims.Optimal point) tree))
   finds_best bests tree point value a b done is_value is_a is_b = record {
     small = small;
     point = point;
@@ -40,24 +44,26 @@ module _ (nodes : ℕ) (model : Model) (small : HasNoLargePart model) (points : 
     tree = tree;
     shown = done.holds;
     within = done.counted;
-    report = found_same (codes "OPTIMAL") value (value_at model point) point a (records tree) b (plain_splits tree) is_value is_a is_b;
+    report = ap (λ lines. with_proof lines (proof_text (claims.Optimal point) tree)) (found_same (codes "OPTIMAL") value (value_at model point) point a (records tree) b (plain_splits tree) is_value is_a is_b);
+    accepted = written_accepted (rows_of model) (claims.Optimal point) tree limits done.known done.holds;
   }
 
-  pub finds_none : (tree : Tree) (a b : ℕ) → IsTree tree None → a ≡ records tree → b ≡ plain_splits tree → FindsNone nodes model (bare_lines (codes "INFEASIBLE") a b)
+  pub finds_none : (tree : Tree) (a b : ℕ) → IsTree tree None → a ≡ records tree → b ≡ plain_splits tree → FindsNone nodes model (with_proof (bare_lines (codes "INFEASIBLE") a b) (proof_text claims.Infeasible tree))
   finds_none tree a b done is_a is_b = record {
     small = small;
     none = λ x point. done.least x ((points x).0 point);
     tree = tree;
     shown = done.holds;
     within = done.counted;
-    report = bare_same (codes "INFEASIBLE") a (records tree) b (plain_splits tree) is_a is_b;
+    report = ap (λ lines. with_proof lines (proof_text claims.Infeasible tree)) (bare_same (codes "INFEASIBLE") a (records tree) b (plain_splits tree) is_a is_b);
+    accepted = written_accepted (rows_of model) claims.Infeasible tree limits tt done.holds;
   }
 
   few_nodes : nodes < (widest (rows_of model).box + 2) ^ (2 * length (rows_of model).box) → nodes < enough_nodes model
   few_nodes few = subst (λ n. nodes < (widest (rows_of model).box + 2) ^ (2 * n)) (length-map model.columns rounded_bounds) few
 
   pub spends_with : (part : PartTree) (point : List ℤ) (value : ℚ) (a b : ℕ) → IsPart part (Some point) → value ≡ value_at model point → a ≡ records_of_part part → b ≡ plain_splits_of_part part
-      → SpendsBudget nodes model (found_lines (codes "SPENT") value model.columns point a b)
+      → SpendsBudget nodes model (with_proof (found_lines (codes "SPENT") value model.columns point a b) (part_text part))
   spends_with part point value a b spent is_value is_a is_b = record {
     small = small;
     best = Some point;
@@ -67,10 +73,10 @@ module _ (nodes : ℕ) (model : Model) (small : HasNoLargePart model) (points : 
     counted = spent.counted;
     unfinished = spent.unfinished;
     few = few_nodes spent.few;
-    report = found_same (codes "SPENT") value (value_at model point) point a nodes b (plain_splits_of_part part) is_value (is_a ∙ spent.counted) is_b;
+    report = ap (λ lines. with_proof lines (part_text part)) (found_same (codes "SPENT") value (value_at model point) point a nodes b (plain_splits_of_part part) is_value (is_a ∙ spent.counted) is_b);
   }
 
-  pub spends_without : (part : PartTree) (a b : ℕ) → IsPart part None → a ≡ records_of_part part → b ≡ plain_splits_of_part part → SpendsBudget nodes model (bare_lines (codes "SPENT") a b)
+  pub spends_without : (part : PartTree) (a b : ℕ) → IsPart part None → a ≡ records_of_part part → b ≡ plain_splits_of_part part → SpendsBudget nodes model (with_proof (bare_lines (codes "SPENT") a b) (part_text part))
   spends_without part a b spent is_a is_b = record {
     small = small;
     best = None;
@@ -80,5 +86,5 @@ module _ (nodes : ℕ) (model : Model) (small : HasNoLargePart model) (points : 
     counted = spent.counted;
     unfinished = spent.unfinished;
     few = few_nodes spent.few;
-    report = bare_same (codes "SPENT") a nodes b (plain_splits_of_part part) (is_a ∙ spent.counted) is_b;
+    report = ap (λ lines. with_proof lines (part_text part)) (bare_same (codes "SPENT") a nodes b (plain_splits_of_part part) (is_a ∙ spent.counted) is_b);
   }

@@ -4,6 +4,7 @@ pub mod SpellLaws
 pub mod WordLaws
 pub mod PointLaws
 pub mod TakeLaws
+pub mod PutLaws
 pub mod AnswerLaws
 pub mod SolveLaws
 pub mod VerdictLaws

@@ -13,6 +13,7 @@ use Rattle.solve_cli.specs.declared.status.Status.{Status}
 use Rattle.solve_cli.specs.declared.status.Status.TheVariants.{Optimal, Infeasible, Spent, Words, Text, TooLong, Large, ReadFault, WriteFault, NoMemory}
 use Rattle.solve_cli.specs.Words.{Options}
 use Rattle.solve_cli.specs.Limits.{most_bytes}
+use Rattle.solve_cli.specs.Outputs.{Output}
 use Rattle.solve_cli.specs.Verdict.{enough_nodes, Solves, States, IsSearched, IsRefused, IsTooLong, Verdict}
 use Rattle.solve_cli.specs.Answer.{IsDecided, StatesSmall, SameUnlessSpent}
 
@@ -26,17 +27,17 @@ module _ (nodes : ℕ) (model : Model) where
   abbrev IsLarge : Status → Type 0
   IsLarge status = (part : Part) × (status ≡ Large part) × IsFirstLarge model part
 
-  solved : (status : Status) (lines : List (List ℕ)) → Solves nodes model status lines → IsTried status ⊎ IsLarge status
-  solved Optimal lines s = inl (s.small, inl (inl (refl, (s.point, s.best.point))))
-  solved Infeasible lines s = inl (s.small, inl (inr (refl, s.none)))
-  solved Spent lines s = inl (s.small, inr refl)
-  solved (Large part) lines s = inr (part, refl, s.first)
-  solved Words lines s = absurd s
-  solved (Text fault) lines s = absurd s
-  solved (TooLong input) lines s = absurd s
-  solved ReadFault lines s = absurd s
-  solved WriteFault lines s = absurd s
-  solved NoMemory lines s = absurd s
+  solved : (status : Status) (out : Output) → Solves nodes model status out → IsTried status ⊎ IsLarge status
+  solved Optimal out s = inl (s.small, inl (inl (refl, (s.point, s.best.point))))
+  solved Infeasible out s = inl (s.small, inl (inr (refl, s.none)))
+  solved Spent out s = inl (s.small, inr refl)
+  solved (Large part) out s = inr (part, refl, s.first)
+  solved Words out s = absurd s
+  solved (Text fault) out s = absurd s
+  solved (TooLong input) out s = absurd s
+  solved ReadFault out s = absurd s
+  solved WriteFault out s = absurd s
+  solved NoMemory out s = absurd s
 
   one_decision : (one other : Status) → IsDecided model one → IsDecided model other → one ≡ other
   one_decision one other a b =
@@ -47,22 +48,22 @@ module _ (nodes : ℕ) (model : Model) where
   one_try one other a b =
       ⊎_elim (λ first. ⊎_elim (λ second. inl (one_decision one other first second)) (λ spent. inr (inr spent)) b.1) (λ spent. inr (inl spent)) a.1
 
-  one_solve : (one other : Status) (lines more : List (List ℕ)) → Solves nodes model one lines → Solves nodes model other more → SameUnlessSpent one other
-  one_solve one other lines more a b =
+  one_solve : (one other : Status) (out more : Output) → Solves nodes model one out → Solves nodes model other more → SameUnlessSpent one other
+  one_solve one other out more a b =
       ⊎_elim
       (λ first. ⊎_elim (λ second. one_try one other first second) (λ large. absurd (first.0 large.0 large.2.large)) (solved other more b))
       (λ large. ⊎_elim (λ second. absurd (second.0 large.0 large.2.large))
       (λ same. inl (large.1 ∙ ap Large (first_large_is_one model large.0 same.0 large.2 same.2) ∙ sym same.1)) (solved other more b))
-      (solved one lines a)
+      (solved one out a)
 
   -- a model without a large part is decided, or the budget is spent
-  ends_model : (status : Status) (lines : List (List ℕ)) → HasNoLargePart model → Solves nodes model status lines → IsDecided model status ⊎ (status ≡ Spent)
-  ends_model status lines small s = ⊎_elim (λ tried. tried.1) (λ large. absurd (small large.0 large.2.large)) (solved status lines s)
+  ends_model : (status : Status) (out : Output) → HasNoLargePart model → Solves nodes model status out → IsDecided model status ⊎ (status ≡ Spent)
+  ends_model status out small s = ⊎_elim (λ tried. tried.1) (λ large. absurd (small large.0 large.2.large)) (solved status out s)
 
 -- with enough nodes the budget is not spent
-not_spent : (nodes : ℕ) (model : Model) (status : Status) (lines : List (List ℕ)) → enough_nodes model ≤ nodes → Solves nodes model status lines → status ≡ Spent → ⊥
-not_spent nodes model status lines enough s spent =
-    let found : Solves nodes model Spent lines = subst (λ one. Solves nodes model one lines) spent s in
+not_spent : (nodes : ℕ) (model : Model) (status : Status) (out : Output) → enough_nodes model ≤ nodes → Solves nodes model status out → status ≡ Spent → ⊥
+not_spent nodes model status out enough s spent =
+    let found : Solves nodes model Spent out = subst (λ one. Solves nodes model one out) spent s in
     absurd (omega (arith, enough, found.few))
 
 -- ---- texts
@@ -78,35 +79,35 @@ never found model fault a b = absurd cc
 
 module _ (options : Options) (text : List ℕ) where
   -- and what a text comes to is one of three
-  abbrev Judged : Status → List (List ℕ) → Type 0
-  Judged status lines =
-      ((status ≡ TooLong ModelText) × IsTooLong text lines) ⊎ (((fault : TextFault) × (status ≡ Text fault) × IsRefused options text fault lines) ⊎ IsSearched options text status lines)
+  abbrev Judged : Status → Output → Type 0
+  Judged status out =
+      ((status ≡ TooLong ModelText) × IsTooLong text out) ⊎ (((fault : TextFault) × (status ≡ Text fault) × IsRefused options text fault out) ⊎ IsSearched options text status out)
 
-  judged : (status : Status) (lines : List (List ℕ)) → Verdict options text status lines → Judged status lines
-  judged Optimal lines v = inr (inr v)
-  judged Infeasible lines v = inr (inr v)
-  judged Spent lines v = inr (inr v)
-  judged (Large part) lines v = inr (inr v)
-  judged (Text fault) lines v = inr (inl (fault, refl, v))
-  judged (TooLong ModelText) lines v = inl (refl, v)
-  judged Words lines v = absurd v
-  judged ReadFault lines v = absurd v
-  judged WriteFault lines v = absurd v
-  judged NoMemory lines v = absurd v
+  judged : (status : Status) (out : Output) → Verdict options text status out → Judged status out
+  judged Optimal out v = inr (inr v)
+  judged Infeasible out v = inr (inr v)
+  judged Spent out v = inr (inr v)
+  judged (Large part) out v = inr (inr v)
+  judged (Text fault) out v = inr (inl (fault, refl, v))
+  judged (TooLong ModelText) out v = inl (refl, v)
+  judged Words out v = absurd v
+  judged ReadFault out v = absurd v
+  judged WriteFault out v = absurd v
+  judged NoMemory out v = absurd v
 
   abbrev found : Result Model TextFault
   found = meaning options.layout options.upper text
 
-  one_search : (one other : Status) (lines more : List (List ℕ)) → IsSearched options text one lines → IsSearched options text other more → SameUnlessSpent one other
-  one_search one other lines more a b =
-      one_solve options.nodes b.model one other lines more
-      (subst (λ m. Solves options.nodes m one lines) (same_model found a.model b.model a.states b.states) a.solves) b.solves
+  one_search : (one other : Status) (out more : Output) → IsSearched options text one out → IsSearched options text other more → SameUnlessSpent one other
+  one_search one other out more a b =
+      one_solve options.nodes b.model one other out more
+      (subst (λ m. Solves options.nodes m one out) (same_model found a.model b.model a.states b.states) a.solves) b.solves
 
   not_long : {P : Type 0} → most_bytes < length text → length text ≤ most_bytes → P
   not_long long short = absurd (omega arith)
 
-  pub one_status : (one other : Status) (lines more : List (List ℕ)) → Verdict options text one lines → Verdict options text other more → SameUnlessSpent one other
-  one_status one other lines more a b =
+  pub one_status : (one other : Status) (out more : Output) → Verdict options text one out → Verdict options text other more → SameUnlessSpent one other
+  one_status one other out more a b =
       ⊎_elim
       (λ long. ⊎_elim (λ same. inl (long.0 ∙ sym same.0))
       (λ r. ⊎_elim (λ refused. not_long long.1.long refused.2.short) (λ searched. not_long long.1.long searched.short) r) (judged other more b))
@@ -116,21 +117,21 @@ module _ (options : Options) (text : List ℕ) where
       (λ searched. never found searched.model refused.0 searched.states refused.2.first) r) (judged other more b))
       (λ searched. ⊎_elim (λ long. not_long long.1.long searched.short)
       (λ r. ⊎_elim (λ refused. never found searched.model refused.0 searched.states refused.2.first)
-      (λ same. one_search one other lines more searched same) r) (judged other more b))
+      (λ same. one_search one other out more searched same) r) (judged other more b))
       l)
-      (judged one lines a)
+      (judged one out a)
 
   -- a text that states a model without a large part is searched
-  search_of : (model : Model) (status : Status) (lines : List (List ℕ)) → StatesSmall options text model → Verdict options text status lines → Solves options.nodes model status lines
-  search_of model status lines small v =
+  search_of : (model : Model) (status : Status) (out : Output) → StatesSmall options text model → Verdict options text status out → Solves options.nodes model status out
+  search_of model status out small v =
       ⊎_elim (λ long. not_long long.1.long small.short)
       (λ r. ⊎_elim (λ refused. never found model refused.0 small.states refused.2.first)
-      (λ searched. subst (λ m. Solves options.nodes m status lines) (same_model found searched.model model searched.states small.states) searched.solves) r)
-      (judged status lines v)
+      (λ searched. subst (λ m. Solves options.nodes m status out) (same_model found searched.model model searched.states small.states) searched.solves) r)
+      (judged status out v)
 
-  pub ends : (model : Model) (status : Status) (lines : List (List ℕ)) → StatesSmall options text model → Verdict options text status lines → IsDecided model status ⊎ (status ≡ Spent)
-  ends model status lines small v = ends_model options.nodes model status lines small.small (search_of model status lines small v)
+  pub ends : (model : Model) (status : Status) (out : Output) → StatesSmall options text model → Verdict options text status out → IsDecided model status ⊎ (status ≡ Spent)
+  ends model status out small v = ends_model options.nodes model status out small.small (search_of model status out small v)
 
-  pub decides : (model : Model) (status : Status) (lines : List (List ℕ)) → StatesSmall options text model → enough_nodes model ≤ options.nodes → Verdict options text status lines → IsDecided model status
-  decides model status lines small enough v =
-      ⊎_elim (λ decided. decided) (λ spent. absurd (not_spent options.nodes model status lines enough (search_of model status lines small v) spent)) (ends model status lines small v)
+  pub decides : (model : Model) (status : Status) (out : Output) → StatesSmall options text model → enough_nodes model ≤ options.nodes → Verdict options text status out → IsDecided model status
+  decides model status out small enough v =
+      ⊎_elim (λ decided. decided) (λ spent. absurd (not_spent options.nodes model status out enough (search_of model status out small v) spent)) (ends model status out small v)

@@ -1,7 +1,7 @@
 -- When a run answers which status, and what it says then.
-use Rattle.std.specs.Prelude.{◌≡◌, ◌⊎◌, ◌≤◌, ◌<◌, ℕ, ℤ, List, [], ◌∷◌, length, drop, codes, Option, Some, None, option_map, IfSome}
+use Rattle.std.specs.Prelude.{◌≡◌, ◌⊎◌, ◌≤◌, ◌<◌, ℕ, ℤ, List, [], ◌∷◌, length, take, drop, codes, Option, Some, None, option_map, IfSome}
 use Rattle.desk_io.specs.Desk.{Fault, fault, appended, AppendsSome, Same, SameButAt, Rose}
-use Rattle.desk_io.specs.declared.desk.Call.TheVariants.{Take, Say}
+use Rattle.desk_io.specs.declared.desk.Call.TheVariants.{Take, Put, Say}
 use Rattle.int_model.specs.declared.model.Model.{Model}
 use Rattle.int_model.specs.Points.{IsPoint}
 use Rattle.int_model.specs.Large.{HasNoLargePart}
@@ -10,17 +10,20 @@ use Rattle.solve_cli.specs.declared.status.Status.TheVariants.{Optimal, Infeasib
 use Rattle.solve_cli.specs.Words.{Options, Solve, command_of}
 use Rattle.solve_cli.specs.Limits.{most_bytes, most_taken}
 use Rattle.solve_cli.specs.Report.{report_of}
+use Rattle.solve_cli.specs.Outputs.{Output, only}
 use Rattle.solve_cli.specs.Verdict.{States, enough_nodes, Verdict}
 
--- what a run was given: its words, what was left of each input, and how often the desk had failed
+-- what a run was given: its words, what was left of each input, what had been put into each output, and how often the desk had
+-- failed
 pub record Given : Type 0 where
   pub words : List (List ℕ)
   pub left : List ℕ → Option (List ℕ)
+  pub written : List ℕ → Option (List ℕ)
   pub faults : ℕ
 
 -- what a run was given, by its parts
-abbrev pub run_given : List (List ℕ) → (List ℕ → Option (List ℕ)) → ℕ → Given
-run_given words left faults = record { words = words; left = left; faults = faults }
+abbrev pub run_given : List (List ℕ) → (List ℕ → Option (List ℕ)) → (List ℕ → Option (List ℕ)) → ℕ → Given
+run_given words left written faults = record { words = words; left = left; written = written; faults = faults }
 
 -- how often the desk had failed by then, and its last fault
 pub record Faults : Type 0 where
@@ -32,67 +35,98 @@ desk_faults count last = record { count = count; last = last }
 
 -- the words are a command, and under its options this is the verdict on the bytes that were left of MODEL: on those
 -- that the desk tells, or where it tells none on some bytes
-pub record JudgesText (given : Given) (status : Status) (lines : List (List ℕ)) : Type 0 where
+pub record JudgesText (given : Given) (status : Status) (out : Output) : Type 0 where
   pub command : Solve
   pub spelled : command_of given.words ≡ Some command
   pub text : List ℕ
   pub told : IfSome (given.left command.model) (λ left. left ≡ text)
-  pub verdict : Verdict command.options text status lines
+  pub verdict : Verdict command.options text status out
 
 -- the desk failed in a take of MODEL
-pub record FailsToRead (given : Given) (faults : Faults) (lines : List (List ℕ)) : Type 0 where
+pub record FailsToRead (given : Given) (faults : Faults) (out : Output) : Type 0 where
   pub command : Solve
   pub spelled : command_of given.words ≡ Some command
   pub rose : Rose given.faults faults.count
   pub last : faults.last ≡ Some (fault Take command.model)
-  pub report : lines ≡ codes "READFAULT" ∷ []
+  pub report : out ≡ only (codes "READFAULT" ∷ [])
 
--- why a status may be answered, and the lines to be said then
-abbrev pub Reason : Given → Faults → Status → List (List ℕ) → Type 0
-Reason given faults Optimal lines = JudgesText given Optimal lines
-Reason given faults Infeasible lines = JudgesText given Infeasible lines
-Reason given faults Spent lines = JudgesText given Spent lines
-Reason given faults (Text fault) lines = JudgesText given (Text fault) lines
-Reason given faults (TooLong input) lines = JudgesText given (TooLong input) lines
-Reason given faults (Large part) lines = JudgesText given (Large part) lines
-Reason given faults Words lines = (command_of given.words ≡ None) × (lines ≡ codes "WORDS" ∷ [])
-Reason given faults ReadFault lines = FailsToRead given faults lines
-Reason given faults WriteFault lines = ⊥
-Reason given faults NoMemory lines = lines ≡ codes "NOMEMORY" ∷ []
-
--- the status has a reason, and its lines were said
-pub record SaysAll (given : Given) (faults : Faults) (status : Status) (before after : Option (List ℕ)) : Type 0 where
-  pub lines : List (List ℕ)
-  pub reason : Reason given faults status lines
-  pub said : after ≡ option_map (appended (report_of lines)) before
-
--- some status had a reason, and some first bytes of its lines were said
-pub record SaysSome (given : Given) (faults : Faults) (before after : Option (List ℕ)) : Type 0 where
+-- first bytes of a proof that was to be put, which may be all of them
+pub record IsStarted (given : Given) (proof : List ℕ) : Type 0 where
   pub status : Status
-  pub lines : List (List ℕ)
-  pub reason : Reason given faults status lines
-  pub said : AppendsSome (report_of lines) before after
+  pub whole : Output
+  pub judged : JudgesText given status whole
+  pub count : ℕ
+  pub bytes : proof ≡ take count whole.proof
+
+-- memory ran out before a proof was put, or while one was put
+pub record LacksMemory (given : Given) (out : Output) : Type 0 where
+  pub report : out.lines ≡ codes "NOMEMORY" ∷ []
+  pub proof : (out.proof ≡ []) ⊎ IsStarted given out.proof
+
+-- why a status may be answered, and what is to be written then
+abbrev pub Reason : Given → Faults → Status → Output → Type 0
+Reason given faults Optimal out = JudgesText given Optimal out
+Reason given faults Infeasible out = JudgesText given Infeasible out
+Reason given faults Spent out = JudgesText given Spent out
+Reason given faults (Text fault) out = JudgesText given (Text fault) out
+Reason given faults (TooLong input) out = JudgesText given (TooLong input) out
+Reason given faults (Large part) out = JudgesText given (Large part) out
+Reason given faults Words out = (command_of given.words ≡ None) × (out ≡ only (codes "WORDS" ∷ []))
+Reason given faults ReadFault out = FailsToRead given faults out
+Reason given faults WriteFault out = ⊥
+Reason given faults NoMemory out = LacksMemory given out
+
+-- these bytes were put into PROOF, and nothing was put into another output
+pub record Puts (given : Given) (bytes : List ℕ) (written : List ℕ → Option (List ℕ)) : Type 0 where
+  pub no_command : command_of given.words ≡ None → Same given.written written
+  pub others : (command : Solve) → command_of given.words ≡ Some command → SameButAt command.proof given.written written
+  pub proof : (command : Solve) → command_of given.words ≡ Some command → written command.proof ≡ option_map (appended bytes) (given.written command.proof)
+
+-- the status has a reason, its proof was put, and then its lines were said
+pub record SaysAll (given : Given) (faults : Faults) (written : List ℕ → Option (List ℕ)) (status : Status) (before after : Option (List ℕ)) : Type 0 where
+  pub out : Output
+  pub reason : Reason given faults status out
+  pub put : Puts given out.proof written
+  pub said : after ≡ option_map (appended (report_of out.lines)) before
+
+-- some status had a reason, its proof was put, and some first bytes of its lines were said
+pub record SaysSome (given : Given) (faults : Faults) (written : List ℕ → Option (List ℕ)) (before after : Option (List ℕ)) : Type 0 where
+  pub status : Status
+  pub out : Output
+  pub reason : Reason given faults status out
+  pub put : Puts given out.proof written
+  pub said : AppendsSome (report_of out.lines) before after
 
 -- the desk failed in a say, and some first bytes of what there was a reason to say before were said
-pub record FailsToSay (given : Given) (faults : Faults) (before after : Option (List ℕ)) : Type 0 where
+pub record FailsToSay (given : Given) (faults : Faults) (written : List ℕ → Option (List ℕ)) (before after : Option (List ℕ)) : Type 0 where
   pub earlier : Faults
   pub later : given.faults ≤ earlier.count
-  pub part : SaysSome given earlier before after
+  pub part : SaysSome given earlier written before after
   pub rose : Rose earlier.count faults.count
   pub last : faults.last ≡ Some (fault Say [])
 
+-- the desk failed in a put into PROOF, some first bytes of the proof were put, and nothing was said
+pub record FailsToPut (given : Given) (faults : Faults) (written : List ℕ → Option (List ℕ)) : Type 0 where
+  pub command : Solve
+  pub spelled : command_of given.words ≡ Some command
+  pub bytes : List ℕ
+  pub started : IsStarted given bytes
+  pub put : Puts given bytes written
+  pub rose : Rose given.faults faults.count
+  pub last : faults.last ≡ Some (fault Put command.proof)
+
 -- what a run answers
-abbrev pub Answer : Given → Faults → Option (List ℕ) → Option (List ℕ) → Status → Type 0
-Answer given faults before after Optimal = SaysAll given faults Optimal before after
-Answer given faults before after Infeasible = SaysAll given faults Infeasible before after
-Answer given faults before after Spent = SaysAll given faults Spent before after
-Answer given faults before after Words = SaysAll given faults Words before after
-Answer given faults before after (Text fault) = SaysAll given faults (Text fault) before after
-Answer given faults before after (TooLong input) = SaysAll given faults (TooLong input) before after
-Answer given faults before after (Large part) = SaysAll given faults (Large part) before after
-Answer given faults before after ReadFault = SaysAll given faults ReadFault before after
-Answer given faults before after WriteFault = FailsToSay given faults before after
-Answer given faults before after NoMemory = SaysSome given faults before after
+abbrev pub Answer : Given → Faults → (List ℕ → Option (List ℕ)) → Option (List ℕ) → Option (List ℕ) → Status → Type 0
+Answer given faults written before after Optimal = SaysAll given faults written Optimal before after
+Answer given faults written before after Infeasible = SaysAll given faults written Infeasible before after
+Answer given faults written before after Spent = SaysAll given faults written Spent before after
+Answer given faults written before after Words = SaysAll given faults written Words before after
+Answer given faults written before after (Text fault) = SaysAll given faults written (Text fault) before after
+Answer given faults written before after (TooLong input) = SaysAll given faults written (TooLong input) before after
+Answer given faults written before after (Large part) = SaysAll given faults written (Large part) before after
+Answer given faults written before after ReadFault = SaysAll given faults written ReadFault before after
+Answer given faults written before after WriteFault = FailsToSay given faults written before after ⊎ (FailsToPut given faults written × (after ≡ before))
+Answer given faults written before after NoMemory = SaysSome given faults written before after
 
 -- the text of MODEL was judged
 abbrev pub IsJudged : Status → Type 0
@@ -124,10 +158,10 @@ IsCalm NoMemory = ⊥
 abbrev pub KeepsFaults : Faults → Faults → Type 0
 KeepsFaults before now = now ≡ before
 
--- the desk failed in this run, and last in a say
-pub record FailedInSay (before now : Faults) : Type 0 where
+-- the desk failed in this run, and last in a say or in a put
+pub record FailedInWrite (before now : Faults) : Type 0 where
   pub more : before.count < now.count
-  pub last : now.last ≡ Some (fault Say [])
+  pub last : (now.last ≡ Some (fault Say [])) ⊎ ((name : List ℕ) × (now.last ≡ Some (fault Put name)))
 
 -- which inputs were taken: none without a command, and else at most MODEL, to its end or one byte past the limit on
 -- the bytes of a text where the text was judged
@@ -138,7 +172,7 @@ pub record TakesInput (given : Given) (left : List ℕ → Option (List ℕ)) (s
 
 -- the text gives this status
 abbrev pub Gives : Options → List ℕ → Status → Type 0
-Gives options text status = (lines : List (List ℕ)) × Verdict options text status lines
+Gives options text status = (out : Output) × Verdict options text status out
 
 -- the model has a point and the status is Optimal, or it has none and the status is Infeasible
 abbrev pub IsDecided : Model → Status → Type 0

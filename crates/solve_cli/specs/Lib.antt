@@ -8,3 +8,5 @@ pub mod Verdict
 pub mod Answer
 pub mod Solving
 pub mod PlainPaths
+pub mod Outputs
+pub mod Putting

@@ -4,6 +4,7 @@
 mod brancher;
 mod counts;
 mod program;
+mod proof;
 mod reply;
 mod report;
 mod search;

@@ -5,9 +5,10 @@ ghost use Rattle.solve_cli.specs.Words.{Solve, options, command_of};
 ghost use Rattle.solve_cli.specs.Limits.{most_taken};
 ghost use Rattle.solve_cli.specs.Report.{report_of};
 ghost use Rattle.solve_cli.specs.Verdict.{Verdict};
-ghost use Rattle.solve_cli.specs.Answer.{run_given, desk_faults, Answer, Reason, IsJudged, IsCalm, KeepsFaults, FailedInSay, TakesInput, IsComplete};
-ghost use Rattle.solve_cli.specs.Solving.{Replies, IsSaid, StaysCalm, FailsInTake};
+ghost use Rattle.solve_cli.specs.Answer.{run_given, desk_faults, Answer, IsJudged, IsCalm, KeepsFaults, FailedInWrite, TakesInput, IsComplete};
+ghost use Rattle.solve_cli.specs.Solving.{Replies, IsReplied, IsSaid, StaysCalm, FailsAsTold};
 
+use crate::proof::put_proof;
 use crate::reply::{Reply, line_reply, text_reply};
 use crate::search::search_model;
 use crate::status::{Input, Status};
@@ -41,53 +42,56 @@ fn solve(
     search_model(alloc, &model, nodes)
 }
 
-// Takes the text of the model from the desk, and solves the model that it states.
+// Takes the text of the model from the desk, solves the model that it states, and puts the proof.
 fn solve_file<D: Desk>(
     alloc: Global,
     layout: Layout,
     upper: Option<i128>,
     nodes: u32,
     model: &FileName,
+    proof: &FileName,
     desk: &mut D,
-) -> Result<Reply, NoMemory>
+) -> Result<Reply, DeskStop>
     requires upper { IfSome upper (λ bound. pos 0 ≤ℤ bound) }
     requires some { 1 ≤ nodes }
-    ensures reason { (words : List (List ℕ)) (command : Solve) → command_of words ≡ Some command → command.options ≡ options layout upper nodes → command.model ≡ model.now → IfOk result (Replies (Reason
-        (run_given words (D.left desk.old) (D.faults desk.old))
-        (desk_faults (D.faults desk.new) (D.fault_at desk.new)))) }
+    ensures reason { (words : List (List ℕ)) (command : Solve) → command_of words ≡ Some command → command.options ≡ options layout upper nodes
+        → command.model ≡ model.now → command.proof ≡ proof.now → IsReplied
+        (run_given words (D.left desk.old) (D.written desk.old) (D.faults desk.old))
+        (desk_faults (D.faults desk.new) (D.fault_at desk.new)) (D.written desk.new) result }
     ensures others { SameButAt model.now (D.left desk.old) (D.left desk.new) }
     ensures taken { IfOk result (λ reply. IsJudged reply.status → D.left desk.new model.now ≡ option_map (drop most_taken) (D.left desk.old model.now)) }
-    ensures outputs { Same (D.written desk.old) (D.written desk.new) }
     ensures said { D.said desk.new ≡ D.said desk.old }
     ensures later { D.faults desk.old ≤ D.faults desk.new }
     ensures calm { IfOk result (StaysCalm (desk_faults (D.faults desk.old) (D.fault_at desk.old)) (desk_faults (D.faults desk.new) (D.fault_at desk.new))) }
-    ensures take { FailsInTake (desk_faults (D.faults desk.old) (D.fault_at desk.old)) (desk_faults (D.faults desk.new) (D.fault_at desk.new)) }
+    ensures take { FailsAsTold result (desk_faults (D.faults desk.old) (D.fault_at desk.old)) (desk_faults (D.faults desk.new) (D.fault_at desk.new)) }
 {
-    match take_text(alloc, desk, model.text()) {
-        Ok(text) => solve(alloc, layout, upper, nodes, &text),
-        Err(TakeStop::Failed) => line_reply(alloc, Status::ReadFault, b"READFAULT"),
-        Err(TakeStop::NoMemory) => Err(NoMemory),
-    }
+    let text = match take_text(alloc, desk, model.text()) {
+        Ok(text) => text,
+        Err(TakeStop::Failed) => return Ok(line_reply(alloc, Status::ReadFault, b"READFAULT")?),
+        Err(TakeStop::NoMemory) => return Err(DeskStop::NoMemory),
+    };
+    let reply = solve(alloc, layout, upper, nodes, &text)?;
+    put_proof(alloc, desk, proof.text(), &reply.proof)?;
+    Ok(reply)
 }
 
-// What is to be said to the words.
-fn reply_to<D: Desk>(alloc: Global, words: &Vec<String>, desk: &mut D) -> Result<Reply, NoMemory>
-    ensures reason { IfOk result (Replies (Reason
-        (run_given (map string_bytes words.now.items) (D.left desk.old) (D.faults desk.old))
-        (desk_faults (D.faults desk.new) (D.fault_at desk.new)))) }
+// What is to be said to the words, once the proof is put.
+fn reply_to<D: Desk>(alloc: Global, words: &Vec<String>, desk: &mut D) -> Result<Reply, DeskStop>
+    ensures reason { IsReplied
+        (run_given (map string_bytes words.now.items) (D.left desk.old) (D.written desk.old) (D.faults desk.old))
+        (desk_faults (D.faults desk.new) (D.fault_at desk.new)) (D.written desk.new) result }
     ensures inputs { MatchResult result
-        (λ reply. TakesInput (run_given (map string_bytes words.now.items) (D.left desk.old) (D.faults desk.old)) (D.left desk.new) reply.status)
-        (λ _. TakesInput (run_given (map string_bytes words.now.items) (D.left desk.old) (D.faults desk.old)) (D.left desk.new) Status.NoMemory) }
-    ensures outputs { Same (D.written desk.old) (D.written desk.new) }
+        (λ reply. TakesInput (run_given (map string_bytes words.now.items) (D.left desk.old) (D.written desk.old) (D.faults desk.old)) (D.left desk.new) reply.status)
+        (λ _. TakesInput (run_given (map string_bytes words.now.items) (D.left desk.old) (D.written desk.old) (D.faults desk.old)) (D.left desk.new) Status.NoMemory) }
     ensures said { D.said desk.new ≡ D.said desk.old }
     ensures later { D.faults desk.old ≤ D.faults desk.new }
     ensures calm { IfOk result (StaysCalm (desk_faults (D.faults desk.old) (D.fault_at desk.old)) (desk_faults (D.faults desk.new) (D.fault_at desk.new))) }
-    ensures take { FailsInTake (desk_faults (D.faults desk.old) (D.fault_at desk.old)) (desk_faults (D.faults desk.new) (D.fault_at desk.new)) }
+    ensures take { FailsAsTold result (desk_faults (D.faults desk.old) (D.fault_at desk.old)) (desk_faults (D.faults desk.new) (D.fault_at desk.new)) }
 {
     let command = match read_words(alloc, words) {
         Ok(command) => command,
-        Err(WordsStop::Words) => return line_reply(alloc, Status::Words, b"WORDS"),
-        Err(WordsStop::NoMemory) => return Err(NoMemory),
+        Err(WordsStop::Words) => return Ok(line_reply(alloc, Status::Words, b"WORDS")?),
+        Err(WordsStop::NoMemory) => return Err(DeskStop::NoMemory),
     };
     match command {
         Command::Solve {
@@ -95,8 +99,8 @@ fn reply_to<D: Desk>(alloc: Global, words: &Vec<String>, desk: &mut D) -> Result
             upper,
             nodes,
             model,
-            ..
-        } => solve_file(alloc, layout, upper, nodes, &model, desk),
+            proof,
+        } => solve_file(alloc, layout, upper, nodes, &model, &proof, desk),
     }
 }
 
@@ -115,31 +119,31 @@ fn say<D: Desk>(desk: &mut D, report: &[u8], status: Status) -> Status
     }
 }
 
-/// Runs the command that the words spell: takes its inputs from the desk, says the report, and answers the status.
+/// Runs the command that the words spell: takes its inputs from the desk, puts the proof, says the report, and answers the status.
 pub fn run<D: Desk>(alloc: Global, words: &Vec<String>, desk: &mut D) -> Status
-    // Each status has its reason, and what is said is its report.
+    // Each status has its reason, what is said is its report, and what is put into PROOF is its proof.
     ensures answer { Answer
-        (run_given (map string_bytes words.now.items) (D.left desk.old) (D.faults desk.old))
-        (desk_faults (D.faults desk.new) (D.fault_at desk.new))
+        (run_given (map string_bytes words.now.items) (D.left desk.old) (D.written desk.old) (D.faults desk.old))
+        (desk_faults (D.faults desk.new) (D.fault_at desk.new)) (D.written desk.new)
         (D.said desk.old) (D.said desk.new) result }
 
     // The words and the text of the model decide the status, unless a fault rises or memory runs out.
     ensures complete { IsComplete
-        (run_given (map string_bytes words.now.items) (D.left desk.old) (D.faults desk.old))
+        (run_given (map string_bytes words.now.items) (D.left desk.old) (D.written desk.old) (D.faults desk.old))
         (desk_faults (D.faults desk.new) (D.fault_at desk.new)) result }
 
     // A status that tells no fault and no want of memory leaves the desk's faults as they were: no call failed and was
     // made again.
     ensures calm { IsCalm result → KeepsFaults (desk_faults (D.faults desk.old) (D.fault_at desk.old)) (desk_faults (D.faults desk.new) (D.fault_at desk.new)) }
 
-    // And where the last fault of the run is a say, the status tells it.
-    ensures say { FailedInSay (desk_faults (D.faults desk.old) (D.fault_at desk.old)) (desk_faults (D.faults desk.new) (D.fault_at desk.new)) → result ≡ Status.WriteFault }
+    // And where the last fault of the run is a say or a put, the status tells it.
+    ensures write { FailedInWrite (desk_faults (D.faults desk.old) (D.fault_at desk.old)) (desk_faults (D.faults desk.new) (D.fault_at desk.new)) → result ≡ Status.WriteFault }
 
-    ensures inputs { TakesInput (run_given (map string_bytes words.now.items) (D.left desk.old) (D.faults desk.old)) (D.left desk.new) result }
-    ensures outputs { Same (D.written desk.old) (D.written desk.new) }
+    ensures inputs { TakesInput (run_given (map string_bytes words.now.items) (D.left desk.old) (D.written desk.old) (D.faults desk.old)) (D.left desk.new) result }
 {
     match reply_to(alloc, words, desk) {
         Ok(reply) => say(desk, &reply.report, reply.status),
-        Err(NoMemory) => say(desk, b"NOMEMORY\n", Status::NoMemory),
+        Err(DeskStop::Failed) => Status::WriteFault,
+        Err(DeskStop::NoMemory) => say(desk, b"NOMEMORY\n", Status::NoMemory),
     }
 }

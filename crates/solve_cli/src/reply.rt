@@ -2,31 +2,36 @@
 ghost use Rattle.std.specs.Prelude.{◌≡◌, ◌++◌, ◌∷◌, [], IfOk};
 ghost use Rattle.whole_rows.specs.WholeRows.{Meets};
 ghost use Rattle.int_model.specs.IntegerRows.{value_in};
-ghost use Rattle.solve_cli.specs.Report.{report_of, bare_lines, found_lines, limit_line, IsPartOf, text_line};
+ghost use Rattle.solve_cli.specs.declared.proof.Proof.TheVariants.{Nothing};
+ghost use Rattle.solve_cli.specs.Report.{report_of, found_lines, limit_line, IsPartOf, text_line};
 
 use crate::counts::Counts;
-use crate::report::{bare_report, found_report, limit_report, line_report, text_report};
+use crate::proof::Proof;
+use crate::report::{found_report, limit_report, line_report, text_report};
 use crate::status::Status;
 use int_model::{IntRows, Model, Part};
 use mps_model::TextFault;
 use sequence::NoMemory;
 use std::alloc::Global;
 
-/// A status, and the report that is to be said with it.
+/// A status, the report that is to be said with it, and the proof that is to be put before.
 #[derive(Debug, Drop)]
 pub(crate) struct Reply {
     pub(crate) status: Status,
     pub(crate) report: Vec<u8>,
+    pub(crate) proof: Proof,
 }
 
 /// The reply of a status with one line.
 pub(crate) fn line_reply(alloc: Global, status: Status, line: &[u8]) -> Result<Reply, NoMemory>
     ensures status { IfOk result (λ reply. reply.status ≡ status) }
     ensures report { IfOk result (λ reply. reply.report.items ≡ report_of (line.now ∷ [])) }
+    ensures proof { IfOk result (λ reply. reply.proof ≡ Nothing) }
 {
     Ok(Reply {
         status,
         report: line_report(alloc, line)?,
+        proof: Proof::Nothing,
     })
 }
 
@@ -34,10 +39,12 @@ pub(crate) fn line_reply(alloc: Global, status: Status, line: &[u8]) -> Result<R
 pub(crate) fn text_reply(alloc: Global, fault: TextFault) -> Result<Reply, NoMemory>
     ensures status { IfOk result (λ reply. reply.status ≡ Status.Text fault) }
     ensures report { IfOk result (λ reply. reply.report.items ≡ report_of (text_line fault ∷ [])) }
+    ensures proof { IfOk result (λ reply. reply.proof ≡ Nothing) }
 {
     Ok(Reply {
         status: Status::Text(fault),
         report: text_report(alloc, fault)?,
+        proof: Proof::Nothing,
     })
 }
 
@@ -46,47 +53,28 @@ pub(crate) fn limit_reply(alloc: Global, model: &Model, part: Part) -> Result<Re
     requires { IsPartOf model.now part }
     ensures status { IfOk result (λ reply. reply.status ≡ Status.Large part) }
     ensures report { IfOk result (λ reply. reply.report.items ≡ report_of (limit_line model.now part ∷ [])) }
+    ensures proof { IfOk result (λ reply. reply.proof ≡ Nothing) }
 {
     Ok(Reply {
         status: Status::Large(part),
         report: limit_report(alloc, model, part)?,
+        proof: Proof::Nothing,
     })
 }
 
-/// The reply of a search that found no point.
-pub(crate) fn bare_reply(
+/// The report of a search that found this point.
+pub(crate) fn point_report(
     alloc: Global,
-    status: Status,
-    head: &[u8],
-    counts: Counts,
-) -> Result<Reply, NoMemory>
-    ensures status { IfOk result (λ reply. reply.status ≡ status) }
-    ensures report { IfOk result (λ reply. reply.report.items ≡ report_of (bare_lines head.now counts.nodes counts.plain)) }
-{
-    Ok(Reply {
-        status,
-        report: bare_report(alloc, head, counts)?,
-    })
-}
-
-/// The reply of a search that found this point.
-pub(crate) fn found_reply(
-    alloc: Global,
-    status: Status,
     head: &[u8],
     model: &Model,
     rows: &IntRows,
     point: &[i128],
     counts: Counts,
-) -> Result<Reply, NoMemory>
+) -> Result<Vec<u8>, NoMemory>
     requires { Meets rows.now.whole point.now }
-    ensures status { IfOk result (λ reply. reply.status ≡ status) }
-    ensures report { IfOk result (λ reply. reply.report.items ≡ report_of (found_lines head.now (value_in rows.now point.now) model.now.columns point.now counts.nodes counts.plain)) }
+    ensures { IfOk result (λ report. report.items ≡ report_of (found_lines head.now (value_in rows.now point.now) model.now.columns point.now counts.nodes counts.plain)) }
 {
     let value = rows.value(point);
     let columns = model.columns.items();
-    Ok(Reply {
-        status,
-        report: found_report(alloc, head, &value, columns, point, counts)?,
-    })
+    found_report(alloc, head, &value, columns, point, counts)
 }

@@ -9,9 +9,12 @@ ghost use Rattle.solve_cli.specs.Solving.{Replies};
 
 use crate::brancher::{PlainBrancher, PlainPlace};
 use crate::counts::{count_part, count_tree};
-use crate::reply::{Reply, bare_reply, found_reply, limit_reply};
+use crate::proof::Proof;
+use crate::reply::{Reply, limit_reply, point_report};
+use crate::report::bare_report;
 use crate::status::Status;
 use int_model::{IntRows, Model, RowsStop};
+use proof_text::Claim;
 use proof_tree::{Searched, search};
 use sequence::NoMemory;
 use std::alloc::Global;
@@ -20,7 +23,8 @@ use whole_rows::DenseRows;
 // Searches rows by splits of single columns.
 fn search_rows(alloc: Global, rows: &DenseRows, nodes: u32) -> Result<Searched, NoMemory>
     requires some { 1 ≤ nodes }
-    ensures { IfOk result (IsFound (IsPlainAnswer rows.now) rows.now true nodes) }
+    ensures found { IfOk result (IsFound (IsPlainAnswer rows.now) rows.now true nodes) }
+    ensures limits { IsWithinLimits rows.now }
 {
     let columns = rows.columns();
     prove!(columns <= 256);
@@ -43,31 +47,31 @@ pub(crate) fn search_model(alloc: Global, model: &Model, nodes: u32) -> Result<R
         Searched::Done { tree, best } => {
             let counts = count_tree(&tree);
             match best {
-                Some(point) => found_reply(
-                    alloc,
-                    Status::Optimal,
-                    b"OPTIMAL",
-                    model,
-                    &rows,
-                    point.items(),
-                    counts,
-                ),
-                None => bare_reply(alloc, Status::Infeasible, b"INFEASIBLE", counts),
+                Some(point) => Ok(Reply {
+                    status: Status::Optimal,
+                    report: point_report(alloc, b"OPTIMAL", model, &rows, point.items(), counts)?,
+                    proof: Proof::Whole(Claim::Optimal(point), tree),
+                }),
+                None => Ok(Reply {
+                    status: Status::Infeasible,
+                    report: bare_report(alloc, b"INFEASIBLE", counts)?,
+                    proof: Proof::Whole(Claim::Infeasible, tree),
+                }),
             }
         }
         Searched::Spent { part, best } => {
             let counts = count_part(&part);
             match best {
-                Some(point) => found_reply(
-                    alloc,
-                    Status::Spent,
-                    b"SPENT",
-                    model,
-                    &rows,
-                    point.items(),
-                    counts,
-                ),
-                None => bare_reply(alloc, Status::Spent, b"SPENT", counts),
+                Some(point) => Ok(Reply {
+                    status: Status::Spent,
+                    report: point_report(alloc, b"SPENT", model, &rows, point.items(), counts)?,
+                    proof: Proof::Part(part),
+                }),
+                None => Ok(Reply {
+                    status: Status::Spent,
+                    report: bare_report(alloc, b"SPENT", counts)?,
+                    proof: Proof::Part(part),
+                }),
             }
         }
     }

@@ -104,7 +104,27 @@ fn runs_answer_and_report(rt: HostRuntime) -> Result<(), Fail> {
         let status = run(alloc, &words(alloc, "solve m p")?, &mut desk);
         assert_eq!(rt; status.code(), code, "of {text}");
         assert!(rt; desk.said().starts_with(report.as_bytes()), "to {text}");
-        assert!(rt; desk.written("p").is_empty());
+        assert_eq!(rt; desk.written("p").is_empty(), code > 2, "of {text}");
+    }
+    Ok(())
+}
+
+#[test]
+fn proofs_are_put(rt: HostRuntime) -> Result<(), Fail> {
+    let alloc = rt.alloc();
+    // By hand: the cut alone refutes a model without columns; and the ends of a split on a column are refuted by its bounds.
+    for (line, text, proof) in [
+        ("solve m p", EMPTY, "SLICER 1\nOPTIMAL\nE Z0:1\nDONE\n"),
+        (
+            "solve --nodes 1 m p",
+            TWO_COINS,
+            "SLICER 1\nOPEN\nS P 0 11 0:1\nB 3:1 6:1\nA 2:1 6:1\nO 11\nSPENT\n",
+        ),
+    ] {
+        let mut desk = MemDesk::new(alloc);
+        desk.add_input("m", text.as_bytes())?;
+        run(alloc, &words(alloc, line)?, &mut desk);
+        assert_eq!(rt; desk.written("p"), proof.as_bytes(), "to {line}");
     }
     Ok(())
 }
@@ -584,12 +604,15 @@ fn texts_and_lines_are_limited(rt: HostRuntime) -> Result<(), Fail> {
 #[test]
 fn faults_are_answered(rt: HostRuntime) -> Result<(), Fail> {
     let alloc = rt.alloc();
-    // A text of this size is taken in one call, the next call finds its end, and the third says the report.
+    // A text of this size is taken in one call, and the next call finds its end. Then the proof is put: its head, 34 nodes and its
+    // last line. The last call says the report.
     for (call, code, said) in [
         (1, 6, "READFAULT\n"),
         (2, 6, "READFAULT\n"),
         (3, 7, ""),
-        (4, 0, "OPTIMAL\nVALUE 0\nPOINT 1 x\nPOINT 1 y\n"),
+        (38, 7, ""),
+        (39, 7, ""),
+        (40, 0, "OPTIMAL\nVALUE 0\nPOINT 1 x\nPOINT 1 y\n"),
     ] {
         let mut desk = MemDesk::new(alloc);
         desk.add_input("m", TWO_COINS.as_bytes())?;

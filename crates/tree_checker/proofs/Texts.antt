@@ -26,79 +26,9 @@ use Rattle.proof_text.specs.Printable.{IsPrintableLine, IsPrintableCut, IsPrinta
 use Rattle.tree_checker.specs.Accepts.{longest, last_of, IsClaim, IsTrueOf, HasShortLines, Accepts}
 use Rattle.tree_checker.specs.Stages.{Stage, at_head, at_claim, at_node, at_below, at_above, at_done, at_end}
 use Rattle.tree_checker.specs.Passes.{PassesTo, PassTo, PassesWhole}
+use Rattle.tree_checker.specs.Written.{tree_printable, claim_printable}
 use Rattle.tree_checker.proofs.Completes.{Completes, completes}
 use Rattle.tree_checker.proofs.Walks.{All-left, All-right, tree_passes}
-
--- ---- what holds can be printed
-
-of_cut : (cut : Option CutUse) (P Q : CutUse → Type 0) → IfSome cut (λ (cut : CutUse). P cut × Q cut) → IfSome cut Q
-of_cut None P Q h = tt
-of_cut (Some cut) P Q h = h.1
-
-limits_of : List Inequality → List ℤ
-limits_of inequalities = map (λ (inequality : Inequality). inequality.limit) inequalities
-
--- a combination that comes to less than 0 uses something
-uses_some : (times : List ℤ) (inequalities : List Inequality) → dot integers times (map (λ (inequality : Inequality). inequality.limit) inequalities) <ℤ pos 0 → times ≢ []
-uses_some [] inequalities h = absurd (omega (arith, ints, h))
-uses_some (t ∷ times) inequalities h = λ e. absurd cc
-
-line_printable : (rows : WholeRows) (last : Option ℤ) (path : List Slice) (end : Option Inequality) (line : Line) → Closes rows last path end line → IsPrintableLine rows path end line
-line_printable rows last path end line closes = record {
-  some = uses_some (multipliers line) (used rows path end line) closes.refutes.combination.negative;
-  rising = closes.refutes.rising;
-  there = closes.refutes.there;
-  times = closes.refutes.in_range;
-  value = of_cut line.cut (λ (cut : CutUse). IsSomeAnd last (λ least. least ≤ℤ cut.value)) (λ (cut : CutUse). IsOfSize (2 ^ 97) cut.value) closes.cut;
-}
-
--- a number whose size is at most the limit
-of_size : (limit : ℕ) (number : ℤ) → unsigned_abs number ≤ limit → IsOfSize limit number
-of_size limit number h = omega (arith, ints, h)
-
--- the factors of a form are no larger than what it spans
-pub factors_of_size : (limit : ℕ) (form : List ℤ) (box : List Bounds) → length form ≡ length box → span form box ≤ limit → All (IsOfSize limit) form
-factors_of_size limit [] box e h = All-nil (IsOfSize limit)
-factors_of_size limit (factor ∷ form) [] e h = absurd (omega (arith, e))
-factors_of_size limit (factor ∷ form) (bounds ∷ box) e h =
-    All-cons (IsOfSize limit) factor form
-    (of_size limit factor (omega (arith, h, factor_le_term factor bounds)))
-    (factors_of_size limit form box (omega (arith, e)) (omega (arith, h)))
-
-cut_printable : (rows : WholeRows) (last : Option ℤ) (path : List Slice) (cut : Cut) → IsSplit rows last path cut → IsPrintableCut rows path cut
-cut_printable rows last path cut split = record {
-  dense = split.form.dense;
-  some = split.form.some;
-  factors = factors_of_size (2 ^ 96) cut.form rows.box split.form.dense split.form.light;
-  lo = split.lo;
-  count = split.count;
-  below = line_printable rows last path (Some (below cut.form cut.lo)) cut.below split.below;
-  above = line_printable rows last path (Some (above cut.form (cut.lo +ℤ cut.count))) cut.above split.above;
-}
-
-mutual
-  tree_printable : (rows : WholeRows) (last : Option ℤ) (path : List Slice) (tree : Tree) → Holds rows last path tree → IsPrintableTree rows path tree
-  tree_printable rows last path (Empty line) holds = line_printable rows last path None line holds.1
-  tree_printable rows last path (Split' p cut s children) holds = (cut_printable rows last path cut holds.1, trees_printable rows last path cut.form cut.lo (cut.lo +ℤ cut.count) children holds.2)
-
-  trees_printable : (rows : WholeRows) (last : Option ℤ) (path : List Slice) (form : List ℤ) (from until : ℤ) {m : _} (children : Row_of-Tree m) → HoldEach rows last path form from until children → ArePrintableTrees rows path form from until children
-  trees_printable rows last path form from until end_of-Tree hold = hold
-  trees_printable rows last path form from until (more_of-Tree child rest) hold = (tree_printable rows last (on_slice path form from) child hold.0, trees_printable rows last path form (from +ℤ pos 1) until rest hold.1)
-
--- a point of the box has a number for each column, none of them larger than the reaches
-values_of_size : (limit : ℕ) (box : List Bounds) (x : List ℤ) → All (λ bounds. reach bounds ≤ limit) box → LiesIn box x → (length x ≡ length box) × All (IsOfSize limit) x
-values_of_size limit [] [] light lies = (refl, All-nil (IsOfSize limit))
-values_of_size limit [] (value ∷ x) light lies = absurd lies
-values_of_size limit (bounds ∷ box) [] light lies = absurd lies
-values_of_size limit (bounds ∷ box) (value ∷ x) light lies =
-    let rest = values_of_size limit box x (All-tail (λ bounds. reach bounds ≤ limit) bounds box light) lies.1 in
-    let here : reach bounds ≤ limit = All-head (λ bounds. reach bounds ≤ limit) bounds box light in
-    (ap suc rest.0, All-cons (IsOfSize limit) value x (of_size limit value (omega (arith, here, size_within bounds value lies.0.0 lies.0.1))) rest.1)
-
-claim_printable : (rows : WholeRows) (claim : Claim) → IsWithinLimits rows → IsClaim rows claim → IsPrintableClaim rows claim
-claim_printable rows claims.Infeasible limits is = tt
-claim_printable rows (claims.Optimal x) limits is = values_of_size (2 ^ 96) rows.box x limits.light.reaches is.in_box
-claim_printable rows claims.Open limits is = absurd is
 
 -- ---- lines that pass are short, and not empty
 

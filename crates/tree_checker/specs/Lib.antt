@@ -3,3 +3,4 @@ pub mod Stages
 pub mod Passes
 pub mod Faults
 pub mod Rejects
+pub mod Written

@@ -1,18 +1,21 @@
-use Rattle.std.proofs.Common.{rules, [], ◌∷◌, refl, subst}
-use Rattle.std.specs.Prelude.{map, string_bytes, codes, Err}
+use Rattle.std.proofs.Common.{rules, List, ℕ, [], ◌∷◌, refl, sym, ap, subst}
+use Rattle.std.specs.Prelude.{map, string_bytes, codes, Ok, Err}
 use Rattle.solve_cli.specs.declared.status.Status.TheVariants.{Words}
 use Rattle.solve_cli.specs.Commands.{GivesCommand}
 use Rattle.solve_cli.specs.Words.{command_of}
 use Rattle.solve_cli.specs.Answer.{Reason}
-use Rattle.solve_cli.proofs.SolveLaws.{replied_by}
+use Rattle.solve_cli.proofs.SolveLaws.{replied_by, puts_none}
 use Rattle.solve_cli.proofs.SpellLaws.{bounded_command}
 use Rattle.solve_cli.proofs.program.reply_to.Goals as goal
 
 pub returns-in-Err-Words-clause-reason : goal.returns-in-Err-Words-clause-reason
 returns-in-Err-Words-clause-reason g c =
-    replied_by (Reason _ _) Words (codes "WORDS" ∷ []) c.line_reply.result
-    (subst (λ stop. GivesCommand (Err stop) (command_of (map string_bytes c.args.words.now.items))) c.in-Err-Words.field-0-is c.in-Err-Words.ensures, refl)
-    c.line_reply.ensures.status c.line_reply.ensures.report
+    let is = c.in_ok-line_reply-in-Err-Words.ensures in (
+      replied_by {E = Unit {0}} (Reason _ _) Words (codes "WORDS" ∷ []) (Ok c.in_ok-line_reply-in-Err-Words.field-0)
+          (subst (λ stop. GivesCommand (Err stop) (command_of (map string_bytes c.args.words.now.items))) c.in-Err-Words.field-0-is c.in-Err-Words.ensures, refl)
+          is.status is.report is.proof,
+      puts_none _ _ _ is.proof (λ name. refl),
+    )
 
 pub solve_file-requires : goal.solve_file-requires
 solve_file-requires g c = let range = bounded_command (map string_bytes c.args.words.now.items) _ c.in-Ok.ensures in let low = range.upper in let some = range.some in search rules

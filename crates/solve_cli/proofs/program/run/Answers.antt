@@ -1,42 +1,39 @@
-use Rattle.std.proofs.Common.{[], ◌∷◌, refl, ◌∙◌}
+use Rattle.std.proofs.Common.{[], ◌∷◌, refl, subst, ◌∙◌}
 use Rattle.solve_cli.specs.declared.status.Status.TheVariants.{NoMemory}
-use Rattle.std.specs.Prelude.{codes}
+use Rattle.std.specs.Prelude.{codes, Err, map, string_bytes}
+use Rattle.solve_cli.specs.Answer.{run_given, desk_faults}
+use Rattle.solve_cli.specs.Outputs.{with_proof}
+use Rattle.solve_cli.specs.Solving.{output_of, IsReplied}
 use Rattle.solve_cli.proofs.AnswerLaws.{run_answers, takes_said, completes, calm_said, last_said}
 use Rattle.solve_cli.proofs.program.run.Goals as goal
 
 pub returns-in-Ok-clause-answer : goal.returns-in-Ok-clause-answer
 returns-in-Ok-clause-answer g c =
     let replied = c.in-Ok.ensures in
-    run_answers _ _ _ c.in-Ok.reply.status c.say.result replied.reason.0 _ _ _ _ replied.later (c.deref.ensures.value ∙ replied.reason.1) replied.said replied.reason.2
-    c.say.ensures.said
+    let lines = replied.reason.0.0 in
+    run_answers _ _ _ _ _ c.in-Ok.reply.status c.say.result (output_of c.in-Ok.reply lines) _ _ _ _ replied.later (c.deref.ensures.value ∙ replied.reason.0.1) replied.said replied.reason.0.2
+    replied.reason.1 c.say.ensures.outputs c.say.ensures.said
 
 pub returns-in-Ok-clause-complete : goal.returns-in-Ok-clause-complete
-returns-in-Ok-clause-complete g c = completes _ _ _ _ c.say.result (returns-in-Ok-clause-answer g c)
+returns-in-Ok-clause-complete g c = completes _ _ _ _ _ c.say.result (returns-in-Ok-clause-answer g c)
 
 pub returns-in-Ok-clause-calm : goal.returns-in-Ok-clause-calm
 returns-in-Ok-clause-calm g c = calm_said _ _ _ c.in-Ok.reply.status c.say.result _ _ _ c.say.ensures.said c.in-Ok.ensures.calm
 
-pub returns-in-Ok-clause-say : goal.returns-in-Ok-clause-say
-returns-in-Ok-clause-say g c = last_said _ _ _ c.in-Ok.reply.status c.say.result _ _ _ c.say.ensures.said c.in-Ok.ensures.take
+pub returns-in-Ok-clause-write : goal.returns-in-Ok-clause-write
+returns-in-Ok-clause-write g c = last_said _ _ _ c.in-Ok.reply.status c.say.result _ _ _ c.say.ensures.said c.in-Ok.ensures.take
 
 pub returns-in-Ok-clause-inputs : goal.returns-in-Ok-clause-inputs
 returns-in-Ok-clause-inputs g c =
     takes_said _ c.in-Ok.reply.status c.say.result _ _ _ _ _ _ _ c.in-Ok.ensures.inputs c.say.ensures.said c.say.ensures.inputs
 
-pub returns-in-Err-clause-answer : goal.returns-in-Err-clause-answer
-returns-in-Err-clause-answer g c =
-    let replied = c.in-Err.ensures in
-    run_answers _ _ _ NoMemory c.say-in-Err.result (codes "NOMEMORY" ∷ []) _ _ _ _ replied.later refl replied.said refl c.say-in-Err.ensures.said
-
-pub returns-in-Err-clause-complete : goal.returns-in-Err-clause-complete
-returns-in-Err-clause-complete g c = completes _ _ _ _ c.say-in-Err.result (returns-in-Err-clause-answer g c)
-
-pub returns-in-Err-clause-calm : goal.returns-in-Err-clause-calm
-returns-in-Err-clause-calm g c = calm_said _ _ _ NoMemory c.say-in-Err.result _ _ _ c.say-in-Err.ensures.said (λ calm. absurd calm)
-
-pub returns-in-Err-clause-say : goal.returns-in-Err-clause-say
-returns-in-Err-clause-say g c = last_said _ _ _ NoMemory c.say-in-Err.result _ _ _ c.say-in-Err.ensures.said c.in-Err.ensures.take
-
-pub returns-in-Err-clause-inputs : goal.returns-in-Err-clause-inputs
-returns-in-Err-clause-inputs g c =
-    takes_said _ NoMemory c.say-in-Err.result _ _ _ _ _ _ _ c.in-Err.ensures.inputs c.say-in-Err.ensures.said c.say-in-Err.ensures.inputs
+pub returns-in-Err-NoMemory-clause-answer : goal.returns-in-Err-NoMemory-clause-answer
+returns-in-Err-NoMemory-clause-answer g c =
+    let replied = c.in-Err-NoMemory.ensures in
+    let start = c.args.desk.now in
+    let between = c.reply_to.new.desk in
+    let given = run_given (map string_bytes c.args.words.now.items) (g.D.Desk.left start) (g.D.Desk.written start) (g.D.Desk.faults start) in
+    let faults = desk_faults (g.D.Desk.faults between) (g.D.Desk.fault_at between) in
+    let part = subst (λ stop. IsReplied given faults (g.D.Desk.written between) (Err stop)) c.in-Err-NoMemory.field-0-is replied.reason in
+    run_answers given faults _ _ _ NoMemory c.say-in-Err-NoMemory.result (with_proof (codes "NOMEMORY" ∷ []) part.0) _ _ _ _ replied.later refl replied.said (record { report = refl; proof = part.1 })
+    part.2 c.say-in-Err-NoMemory.ensures.outputs c.say-in-Err-NoMemory.ensures.said
