@@ -4,3 +4,4 @@ pub mod Passes
 pub mod Faults
 pub mod Rejects
 pub mod Written
+pub mod Verdicts

@@ -2,7 +2,9 @@
 #![tactic(auto)]
 
 mod laws;
+mod text;
 mod verdict;
 
 pub use laws::{accepted_by_lines, accepted_is_true};
+pub use text::check;
 pub use verdict::{Reject, RejectKind, Verdict};
