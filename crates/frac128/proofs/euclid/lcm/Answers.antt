@@ -2,8 +2,8 @@ use Rattle.std.proofs.Common.{rules, ◌<◌, pos, ◌<ℤ◌, nat_abs, int_div,
 use Rattle.std.specs.Int.{w128}
 use Rattle.std.proofs.lemmas.Int.{to_z-of_z, quot_fits}
 use Rattle.exact_math.specs.Gcd.{gcd}
-use Rattle.int_model.proofs.CheckedProductLaws.{lcm_answered, gcd_above, above_zero}
-use Rattle.int_model.proofs.scales.lcm.Goals as goal
+use Rattle.frac128.proofs.CommonMultiples.{lcm_answered, gcd_above, above_zero}
+use Rattle.frac128.proofs.euclid.lcm.Goals as goal
 
 pub nonzero_div-a : goal.nonzero_div-a
 nonzero_div-a c =
