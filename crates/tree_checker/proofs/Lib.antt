@@ -2,3 +2,4 @@ pub mod Forests
 pub mod Completes
 pub mod Walks
 pub mod Texts
+pub mod StackLaws

@@ -5,3 +5,4 @@ pub mod Faults
 pub mod Rejects
 pub mod Written
 pub mod Verdicts
+pub mod Stacks

@@ -2,6 +2,7 @@
 #![tactic(auto)]
 
 mod laws;
+mod stack;
 mod text;
 mod verdict;
 
