@@ -1,3 +1,4 @@
+pub mod Reading
 pub mod Forests
 pub mod Completes
 pub mod Walks

@@ -1,3 +1,5 @@
+pub mod Lines
+pub mod LineLaws
 pub mod Accepts
 pub mod Stages
 pub mod Passes

@@ -1,6 +1,7 @@
 //! The checker of proof texts.
 #![tactic(auto)]
 
+mod closing;
 mod laws;
 mod text;
 mod verdict;
