@@ -6,3 +6,5 @@ pub mod Rejects
 pub mod Written
 pub mod Verdicts
 pub mod Stacks
+pub mod Claims
+pub mod Openings

@@ -1,7 +1,9 @@
 //! The checker of proof texts.
 #![tactic(auto)]
 
+mod claim;
 mod laws;
+mod opening;
 mod stack;
 mod text;
 mod verdict;
