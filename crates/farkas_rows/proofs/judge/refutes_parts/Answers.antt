@@ -1,6 +1,6 @@
 use Rattle.std.proofs.Common.{replicate, pos, ap, ◌∙◌, arith}
 use Rattle.std.proofs.lemmas.List.{take-replicate}
-use Rattle.farkas_rows.proofs.judge.refutes.Goals as goal
+use Rattle.farkas_rows.proofs.judge.refutes_parts.Goals as goal
 
 pub comes_to_negative-requires-clause-cleared : goal.comes_to_negative-requires-clause-cleared
 comes_to_negative-requires-clause-cleared c =
