@@ -7,3 +7,6 @@ pub mod Faults
 pub mod Rejects
 pub mod Written
 pub mod Verdicts
+pub mod Stacks
+pub mod Claims
+pub mod Openings

@@ -1,8 +1,11 @@
 //! The checker of proof texts.
 #![tactic(auto)]
 
+mod claim;
 mod closing;
 mod laws;
+mod opening;
+mod stack;
 mod text;
 mod verdict;
 
