@@ -1,3 +1,6 @@
+pub mod OneStep
+pub mod Unbroken
+pub mod LineLaws
 pub mod Reading
 pub mod Forests
 pub mod Completes

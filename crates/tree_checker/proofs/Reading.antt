@@ -15,7 +15,7 @@ use Rattle.proof_text.specs.Items.{SpellsItem}
 use Rattle.proof_text.specs.Printable.{IsMultiplier, IsPrintableLine}
 use Rattle.proof_text.specs.Spelling.{cut_word, use_word}
 use Rattle.tree_checker.specs.Lines.{AreWordsOf, AreWordsOfUses, BeginsWithCut, IsNextUse, MayUseCut}
-use Rattle.tree_checker.specs.LineLaws.{item_same, side_small, times_parts}
+use Rattle.tree_checker.proofs.LineLaws.{item_same, side_small, times_parts}
 
 -- ---- numbers that rise
 
@@ -183,14 +183,3 @@ module _ (rows : WholeRows) (path : List Slice) (end : Option Inequality) where
       value = t.1.0;
     },
   )
-
--- ---- what a line that is read closes
-
--- a cut that may be used, with a value in its range
-pub cut_holds : (last : Option ℤ) (cut : Option CutUse) → MayUseCut last cut → IfSome cut (λ (used : CutUse). IsOfSize (2 ^ 97) used.value) → CutHolds last cut
-cut_holds last None h k = tt
-cut_holds last (Some cut) h k = (h, k)
-
--- multipliers are not negative
-pub not_negative : (times : List ℤ) → All IsMultiplier times → All (λ number. pos 0 ≤ℤ number) times
-not_negative times h = All-weaker IsMultiplier (λ number. pos 0 ≤ℤ number) (λ number k. omega (arith, ints, k.0)) times h

@@ -1,5 +1,4 @@
 pub mod Lines
-pub mod LineLaws
 pub mod Accepts
 pub mod Stages
 pub mod Passes

@@ -1,5 +1,5 @@
 use Rattle.farkas_rows.specs.Ends.{inequality_of}
-use Rattle.tree_checker.specs.LineLaws.{spelled_words}
+use Rattle.tree_checker.proofs.LineLaws.{spelled_words}
 use Rattle.tree_checker.proofs.closing.judge_line.Goals as goal
 
 pub returns-in_default-read_line : goal.returns-in_default-read_line

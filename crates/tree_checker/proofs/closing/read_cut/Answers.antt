@@ -1,6 +1,6 @@
 use Rattle.std.proofs.Common.{◌≡◌}
 use Rattle.proof_text.specs.declared.items.Item.TheVariants as items_of
-use Rattle.tree_checker.specs.LineLaws.{item_same}
+use Rattle.tree_checker.proofs.LineLaws.{item_same}
 use Rattle.tree_checker.proofs.closing.read_cut.Goals as goal
 
 pub returns-in_err-cut : goal.returns-in_err-cut

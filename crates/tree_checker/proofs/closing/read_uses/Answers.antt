@@ -2,7 +2,7 @@ use Rattle.std.proofs.Common.{◌+◌, ◌<◌, List, length, sym, subst, arith}
 use Rattle.std.proofs.lemmas.List.{take_more_set, length-set}
 use Rattle.farkas_rows.specs.Ends.{inequality_of}
 use Rattle.farkas_rows.specs.declared.line.Use.{Use}
-use Rattle.tree_checker.specs.LineLaws.{side_below}
+use Rattle.tree_checker.proofs.LineLaws.{side_below}
 use Rattle.tree_checker.proofs.Reading.{UsesSoFar, so_far-more, so_far-stop, so_far-all, uses_of_words, words_of_uses}
 use Rattle.tree_checker.proofs.closing.read_uses.Goals as goal
 

@@ -24,25 +24,9 @@ use Rattle.proof_text.specs.LineLengths.{inequalities-length}
 use Rattle.proof_text.specs.Printable.{IsMultiplier, IsPrintableLine}
 use Rattle.proof_text.specs.Spelling.{in_words, line_words, cut_word, use_word}
 use Rattle.tree_checker.specs.Lines.{SpellsLineOn, AreWordsOf}
+use Rattle.tree_checker.proofs.WordsOf.{token_free, same_cut, pairs_words}
 
 -- ---- one word
-
-token_free : (word : List ℕ) → IsToken word → IsFreeOf 58 word
-token_free word t = All-weaker (λ byte. (byte ≢ 32) × (byte ≢ 58)) (λ byte. byte ≢ 58) (λ byte both. both.1) word t.1
-
-token_word : (word : List ℕ) → IsToken word → IsWord word
-token_word word t = All-weaker (λ byte. (byte ≢ 32) × (byte ≢ 58)) (λ byte. byte ≢ 32) (λ byte both. both.0) word t.1
-
--- what stands in front of the first colon, and behind it
-same_cut : (front first back second : List ℕ) → IsFreeOf 58 front → IsFreeOf 58 first → front ++ 58 ∷ back ≡ first ++ 58 ∷ second → (front ≡ first) × (back ≡ second)
-same_cut [] [] back second h k e = (refl, cc)
-same_cut [] (byte ∷ first) back second h k e = absurd (All-head (λ other. other ≢ 58) byte first k (cc))
-same_cut (byte ∷ front) [] back second h k e = absurd (All-head (λ other. other ≢ 58) byte front h (cc))
-same_cut (byte ∷ front) (other ∷ first) back second h k e =
-    let rest : front ++ 58 ∷ back ≡ first ++ 58 ∷ second = cc in
-    let same = same_cut front first back second (All-tail (λ x. x ≢ 58) byte front h) (All-tail (λ x. x ≢ 58) other first k) rest in
-    let head : byte ≡ other = cc in
-    (cc (head, same.0), same.1)
 
 value_size : (z : ℤ) → IsOfSize (2 ^ 97) z → IsOfSize (2 ^ 126) z
 value_size z h = (omega (arith, ints, h.0), omega (arith, ints, h.1))
@@ -96,14 +80,6 @@ words_same first (word ∷ words) (other ∷ others) some else h k e =
     let rest : in_words (word ∷ words) ≡ in_words (other ∷ others) = cc in
     same_words word other words others h k rest
 
-pair_word : (word : List ℕ) → IsPair word → IsWord word
-pair_word word p =
-    subst IsWord (sym p.2)
-    (All-append (λ byte. byte ≢ 32) p.0 (58 ∷ p.1) (token_word p.0 p.3) (All-cons (λ byte. byte ≢ 32) 58 p.1 (λ e. omega arith) (token_word p.1 p.4)))
-
-pub pairs_are_words : (words : List (List ℕ)) → All IsPair words → All IsWord words
-pairs_are_words words h = All-weaker IsPair IsWord pair_word words h
-
 -- a line that uses something has a word
 line_words-some : (cut : Option CutUse) (items : List Use) → multipliers (record { cut = cut; items = items }) ≢ [] → option_to_list (option_map cut_word cut) ++ map use_word items ≢ []
 line_words-some None [] some e = some refl
@@ -113,7 +89,7 @@ line_words-some (Some cut) items some e = absurd cc
 -- the words of a text that spells a line are those of the line
 pub spelled_words : (rows : WholeRows) (path : List Slice) (end : Option Inequality) (first : ℕ) (text : List ℕ) (words : List (List ℕ)) (line : Line) → text ≡ in_words ((first ∷ []) ∷ words) → ArePairs words → SpellsLineOn rows path end (first ∷ []) text line → AreWordsOf rows path end words line
 spelled_words rows path end first text words line e pairs spells = (
-  words_same first words (line_words line) pairs.0 (line_words-some line.cut line.items spells.1.some) (pairs_are_words words pairs.1) (pairs_are_words (line_words line) (line_words-pairs line)) (sym e ∙ spells.0),
+  words_same first words (line_words line) pairs.0 (line_words-some line.cut line.items spells.1.some) (pairs_words words pairs.1) (pairs_words (line_words line) (line_words-pairs line)) (sym e ∙ spells.0),
   spells.1,
 )
 
