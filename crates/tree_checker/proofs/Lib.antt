@@ -1,3 +1,4 @@
+pub mod OneVerdict
 pub mod OneStep
 pub mod Unbroken
 pub mod LineLaws

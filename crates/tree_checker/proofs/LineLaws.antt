@@ -2,7 +2,7 @@
 use Rattle.std.proofs.Common.{◌≡◌, ◌≢◌, ℕ, zero, suc, ◌+◌, ◌*◌, ◌^◌, ◌<◌, ◌≤◌, ℤ, List, [], ◌∷◌, ◌++◌, length, get_or, map, All, Option, Some, None, IfSome, IsSome, decimal, option_map, option_to_list, refl, sym, ap, subst, ◌∙◌, arith, true≢false}
 use Rattle.std.specs.Fmt.{signed_decimal}
 use Rattle.std.proofs.lemmas.Int.{ints}
-use Rattle.std.proofs.lemmas.List.Elements.{All-nil, All-cons, All-head, All-tail, All-append, All-weaker}
+use Rattle.std.proofs.lemmas.List.Elements.{All-nil, All-cons, All-head, All-tail, All-weaker}
 use Rattle.proof_tree.specs.Trees.{IsOfSize}
 use Rattle.whole_rows.specs.WholeRows.{WholeRows, IsWithinLimits}
 use Rattle.farkas_rows.specs.declared.line.Use.{Use}
@@ -14,8 +14,8 @@ use Rattle.farkas_rows.specs.Refutes.{multipliers, line_of}
 use Rattle.proof_text.specs.declared.items.Item.{Item}
 use Rattle.proof_text.specs.declared.items.Item.TheVariants as items
 use Rattle.proof_text.specs.Items.{SpellsItem}
-use Rattle.proof_text.specs.Shapes.{IsToken, IsDigit, IsPair, ArePairs}
-use Rattle.proof_text.specs.Words.{IsFreeOf, IsWord}
+use Rattle.proof_text.specs.Shapes.{IsToken, IsDigit, ArePairs}
+use Rattle.proof_text.specs.Words.{IsWord}
 use Rattle.proof_text.specs.WordLaws.{same_words}
 use Rattle.proof_text.specs.NumberLaws.{decimal-digits, decimal-same}
 use Rattle.proof_text.specs.TokenLaws.{decimal-token, signed-token, signed-same, token-cons}

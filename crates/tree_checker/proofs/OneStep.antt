@@ -1,5 +1,5 @@
 -- A line passes to one place at most, has no fault where it passes, and has one kind of fault at most.
-use Rattle.std.proofs.Common.{◌≡◌, ◌≢◌, ℕ, suc, ◌+◌, ◌*◌, ◌^◌, ◌<◌, ◌≤◌, ℤ, pos, ◌≤ℤ◌, List, [], ◌∷◌, ◌++◌, length, get_or, map, All, codes, decimal, Option, Some, None, refl, sym, ap, subst, ◌∙◌, arith, inl, inr, ⊎_elim}
+use Rattle.std.proofs.Common.{◌≡◌, ◌≢◌, ℕ, suc, ◌+◌, ◌*◌, ◌^◌, ◌<◌, ◌≤◌, ℤ, pos, ◌≤ℤ◌, List, [], ◌∷◌, length, get_or, map, All, codes, decimal, Option, Some, None, refl, sym, ap, subst, ◌∙◌, arith, inl, inr, ⊎_elim}
 use Rattle.std.specs.Fmt.{signed_decimal}
 use Rattle.std.proofs.lemmas.Int.{ints}
 use Rattle.std.proofs.lemmas.List.Elements.{All-nil, All-cons, All-head, All-tail, All-get_or}
@@ -13,7 +13,7 @@ use Rattle.proof_tree.specs.declared.tree.Mark.{Mark}
 use Rattle.proof_tree.specs.Trees.{IsOfSize, CutHolds}
 use Rattle.proof_text.specs.declared.claim.Claim.{Claim}
 use Rattle.proof_text.specs.declared.claim.Claim.TheVariants as claims
-use Rattle.proof_text.specs.Spelling.{in_words, pair, form_words, mark_word, claim_line}
+use Rattle.proof_text.specs.Spelling.{pair, form_words, mark_word, claim_line}
 use Rattle.proof_text.specs.Shapes.{IsNumberWord, HasLineShape, HasSplitShape}
 use Rattle.proof_text.specs.Words.{IsWord}
 use Rattle.proof_text.specs.WordLaws.{same_words}
@@ -25,12 +25,12 @@ use Rattle.tree_checker.specs.Accepts.{IsClaim, last_of}
 use Rattle.tree_checker.specs.Stages.{OpenSplit, Opening, Stage, at_head, at_claim, at_node, at_below, at_above, at_done, at_end, path_of}
 use Rattle.tree_checker.specs.Lines.{SpellsLineOn, SpellsClosing, IsLight, MayUseCut, IsFaultOn}
 use Rattle.tree_checker.specs.Passes.{opening_line, IsOpening, PassesTo}
-use Rattle.tree_checker.specs.Faults.{IsPrintableOpening, SpellsNumbers, IsTooDeep, IsSplitFault, IsNodeFault, IsFault}
+use Rattle.tree_checker.specs.Faults.{IsPrintableOpening, IsTooDeep, IsSplitFault, IsNodeFault, IsFault}
 use Rattle.tree_checker.specs.Written.{line_printable, claim_printable}
 use Rattle.tree_checker.proofs.Completes.{HasRoom, length-path_of}
 use Rattle.tree_checker.proofs.WordsOf.{signed_word, signed_words, same_pair}
 use Rattle.tree_checker.proofs.ClaimLaws.{same_numbers, optimal}
-use Rattle.tree_checker.proofs.OpeningLaws.{HasFirst, first_word, form_words-word, same_mark, letter, mark_is_word, is_zero, words_none, words_some}
+use Rattle.tree_checker.proofs.OpeningLaws.{first_word, form_words-word, same_mark, letter, mark_is_word, is_zero, words_none, words_some}
 use Rattle.tree_checker.proofs.LineLaws.{line_same}
 use Rattle.tree_checker.proofs.Unbroken.{opening_printable}
 
@@ -272,3 +272,75 @@ module _ (rows : WholeRows) (limits : IsWithinLimits rows) where
   -- a line that opens a split has the shape of one
   opening_shape : (opening : Opening) (text : List ℕ) → text ≡ opening_line opening → IsPrintableOpening rows opening → HasSplitShape text
   opening_shape opening text e h = spelled_split-shape opening.mark opening.lo opening.count opening.form text e h.some
+
+  -- ---- a line at its place
+
+  short_path : (splits : List OpenSplit) → length splits ≤ 2 * length rows.box → length (path_of splits) ≤ 2 * length rows.box
+  short_path splits room = omega (arith, room, length-path_of splits)
+
+  claim_right : (claim : Claim) (text : List ℕ) (kind : RejectKind) → text ≡ claim_line claim → IsClaim rows claim → IsFault rows at_claim text kind → ⊥
+  claim_right claims.Infeasible text kinds.Claim e is h = h.0 e
+  claim_right (claims.Optimal x) text kinds.Claim e is h = h.1 (map signed_decimal x, e, number_words x (claim_printable rows (claims.Optimal x) limits is).1)
+  claim_right claims.Open text kinds.Claim e is h = absurd is
+  claim_right claims.Infeasible text kinds.Point e is h = begins 73 79 text _ _ (λ d. omega (arith, d)) e h.0.1
+  claim_right (claims.Optimal x) text kinds.Point e is h = h.1 x e is
+  claim_right claims.Open text kinds.Point e is h = absurd is
+  claim_right claim text _ e is h = absurd h
+
+  claim_once : (text : List ℕ) (kind other : RejectKind) → IsFault rows at_claim text kind → IsFault rows at_claim text other → kind ≡ other
+  claim_once text kinds.Claim kinds.Claim h k = refl
+  claim_once text kinds.Claim kinds.Point h k = absurd (h.1 k.0)
+  claim_once text kinds.Claim _ h k = absurd k
+  claim_once text kinds.Point kinds.Claim h k = absurd (k.1 h.0)
+  claim_once text kinds.Point kinds.Point h k = refl
+  claim_once text kinds.Point _ h k = absurd k
+  claim_once text _ other h k = absurd h
+
+  module _ (claimed : Claim) (splits : List OpenSplit) (room : length splits ≤ 2 * length rows.box) (text : List ℕ) where
+    abbrev Closing : Type 0
+    Closing = SpellsClosing rows (last_of rows claimed) (path_of splits) None (codes "E") text
+
+    closing_shape : Closing → HasLineShape (codes "E") text
+    closing_shape closing = spelled_line-shape rows (path_of splits) None (codes "E") text closing.0 closing.1 (line_printable rows (last_of rows claimed) (path_of splits) None closing.0 closing.2)
+
+    node_closed : (kind : RejectKind) → Closing → IsNodeFault rows claimed splits text kind → ⊥
+    node_closed kind closing (inl h) = closing_right (last_of rows claimed) (path_of splits) None (short_path splits room) 69 text kind closing h.1
+    node_closed kind closing (inr (inl h)) = shapes_apart text (closing_shape closing) h.0
+    node_closed kind closing (inr (inr h)) = h.1 (closing_shape closing)
+
+    node_opened : (kind : RejectKind) (opening : Opening) → text ≡ opening_line opening → IsOpening rows splits opening → IsNodeFault rows claimed splits text kind → ⊥
+    node_opened kind opening e is (inl h) = shapes_apart text h.0 (opening_shape opening text e (opening_printable rows limits opening is))
+    node_opened kind opening e is (inr (inl h)) = opening_right splits opening text kind e is h.1
+    node_opened kind opening e is (inr (inr h)) = h.2 (opening_shape opening text e (opening_printable rows limits opening is))
+
+    node_once : (kind other : RejectKind) → IsNodeFault rows claimed splits text kind → IsNodeFault rows claimed splits text other → kind ≡ other
+    node_once kind other (inl h) (inl k) = line_once (last_of rows claimed) (path_of splits) None (short_path splits room) 69 text kind other h.1 k.1
+    node_once kind other (inl h) (inr (inl k)) = absurd (shapes_apart text h.0 k.0)
+    node_once kind other (inl h) (inr (inr k)) = absurd (k.1 h.0)
+    node_once kind other (inr (inl h)) (inl k) = absurd (shapes_apart text k.0 h.0)
+    node_once kind other (inr (inl h)) (inr (inl k)) = split_once splits text kind other h.1 k.1
+    node_once kind other (inr (inl h)) (inr (inr k)) = absurd (k.2 h.0)
+    node_once kind other (inr (inr h)) (inl k) = absurd (h.1 k.0)
+    node_once kind other (inr (inr h)) (inr (inl k)) = absurd (h.2 k.0)
+    node_once kind other (inr (inr h)) (inr (inr k)) = h.0 ∙ sym k.0
+
+  -- where it passes it has no fault
+  pub passes_right : (stage next : Stage) (line : List ℕ) (kind : RejectKind) → HasRoom rows stage → PassesTo rows stage line next → IsFault rows stage line kind → ⊥
+  passes_right at_head next line kind room p h = h.1 p.0
+  passes_right at_claim next line kind room p h = claim_right p.0 line kind p.1 p.2 h
+  passes_right (at_node claimed splits) next line kind room (inl p) h = node_closed claimed splits room line kind p.0 h
+  passes_right (at_node claimed splits) next line kind room (inr p) h = node_opened claimed splits room line kind p.0 p.1 p.2 h
+  passes_right (at_below claimed splits opening) next line kind room p h = closing_right (last_of rows claimed) (path_of splits) _ (short_path splits room.0) 66 line kind p.0 h
+  passes_right (at_above claimed splits opening) next line kind room p h = closing_right (last_of rows claimed) (path_of splits) _ (short_path splits room.0) 65 line kind p.0 h
+  passes_right (at_done claimed) next line kind room p h = h.1 p.0
+  passes_right (at_end claimed) next line kind room p h = p
+
+  -- it has one kind of fault at most
+  pub fault_once : (stage : Stage) (line : List ℕ) (kind other : RejectKind) → HasRoom rows stage → IsFault rows stage line kind → IsFault rows stage line other → kind ≡ other
+  fault_once at_head line kind other room h k = h.0 ∙ sym k.0
+  fault_once at_claim line kind other room h k = claim_once line kind other h k
+  fault_once (at_node claimed splits) line kind other room h k = node_once claimed splits room line kind other h k
+  fault_once (at_below claimed splits opening) line kind other room h k = line_once (last_of rows claimed) (path_of splits) _ (short_path splits room.0) 66 line kind other h k
+  fault_once (at_above claimed splits opening) line kind other room h k = line_once (last_of rows claimed) (path_of splits) _ (short_path splits room.0) 65 line kind other h k
+  fault_once (at_done claimed) line kind other room h k = h.0 ∙ sym k.0
+  fault_once (at_end claimed) line kind other room h k = absurd h

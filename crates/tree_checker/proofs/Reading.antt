@@ -1,9 +1,7 @@
 -- A line of multipliers, read word by word.
-use Rattle.std.proofs.Common.{◌≡◌, ◌≢◌, ℕ, zero, suc, ◌+◌, ◌*◌, ◌^◌, ◌<◌, ◌≤◌, ℤ, pos, ◌≤ℤ◌, List, [], ◌∷◌, ◌++◌, length, get_or, map, All, Option, Some, None, IfSome, IsSome, MatchOption, refl, sym, ap, subst, ◌∙◌, arith, append_assoc, append-nil}
+use Rattle.std.proofs.Common.{◌≡◌, ◌≢◌, ℕ, zero, suc, ◌+◌, ◌*◌, ◌<◌, ◌≤◌, List, [], ◌∷◌, ◌++◌, length, get_or, map, Option, Some, None, IsSome, MatchOption, refl, sym, ap, subst, ◌∙◌, arith, append_assoc, append-nil}
 use Rattle.std.specs.List.Sorted.{IsStrictlyIncreasing}
-use Rattle.std.proofs.lemmas.Int.{ints}
-use Rattle.std.proofs.lemmas.List.Elements.{All-nil, All-cons, All-head, All-tail, All-map, All-weaker}
-use Rattle.proof_tree.specs.Trees.{IsOfSize, CutHolds}
+use Rattle.std.proofs.lemmas.List.Elements.{All-nil, All-cons, All-head, All-tail, All-map}
 use Rattle.whole_rows.specs.WholeRows.{WholeRows, IsWithinLimits}
 use Rattle.farkas_rows.specs.declared.line.Use.{Use}
 use Rattle.farkas_rows.specs.declared.line.CutUse.{CutUse}
@@ -14,7 +12,7 @@ use Rattle.proof_text.specs.declared.items.Item.TheVariants as items
 use Rattle.proof_text.specs.Items.{SpellsItem}
 use Rattle.proof_text.specs.Printable.{IsMultiplier, IsPrintableLine}
 use Rattle.proof_text.specs.Spelling.{cut_word, use_word}
-use Rattle.tree_checker.specs.Lines.{AreWordsOf, AreWordsOfUses, BeginsWithCut, IsNextUse, MayUseCut}
+use Rattle.tree_checker.specs.Lines.{AreWordsOf, AreWordsOfUses, BeginsWithCut, IsNextUse}
 use Rattle.tree_checker.proofs.LineLaws.{item_same, side_small, times_parts}
 
 -- ---- numbers that rise

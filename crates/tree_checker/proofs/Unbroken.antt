@@ -1,5 +1,5 @@
 -- A line that passes has no line feed in it.
-use Rattle.std.proofs.Common.{◌≡◌, ◌≢◌, ℕ, zero, suc, ◌+◌, ◌*◌, ◌^◌, ◌<◌, ◌≤◌, ℤ, ◌≤ℤ◌, pos, negsuc, Bool, true, false, IsTrue, not, List, [], ◌∷◌, ◌++◌, length, map, All, Option, Some, None, IfSome, IsSome, codes, decimal, option_map, option_to_list, refl, sym, ap, subst, ◌∙◌, arith, inl, inr}
+use Rattle.std.proofs.Common.{◌≡◌, ◌≢◌, ℕ, suc, ◌+◌, ◌*◌, ◌^◌, ◌<◌, ◌≤◌, ℤ, ◌≤ℤ◌, pos, negsuc, Bool, true, false, not, List, [], ◌∷◌, length, map, All, Option, Some, None, IfSome, IsSome, codes, decimal, option_map, option_to_list, refl, sym, subst, arith, inl, inr}
 use Rattle.std.specs.Prelude.{if◌then◌else◌, ◌==◌}
 use Rattle.std.specs.List.{list_all}
 use Rattle.std.specs.Ordering.{int_eq}
@@ -7,7 +7,7 @@ use Rattle.std.specs.Fmt.{signed_decimal}
 use Rattle.std.proofs.lemmas.Bool.{and_parts, eqb-false, not-true}
 use Rattle.std.proofs.lemmas.Int.{ints}
 use Rattle.std.proofs.lemmas.List.Elements.{All-nil, All-cons, All-head, All-tail, All-append, All-weaker}
-use Rattle.proof_tree.specs.Trees.{IsOfSize, Closes}
+use Rattle.proof_tree.specs.Trees.{IsOfSize}
 use Rattle.proof_tree.specs.declared.tree.Mark.{Mark}
 use Rattle.proof_tree.specs.declared.tree.Mark.TheVariants.{Thin, Plain}
 use Rattle.whole_rows.specs.WholeRows.{WholeRows, IsWithinLimits}
@@ -20,7 +20,7 @@ use Rattle.proof_text.specs.declared.claim.Claim.{Claim}
 use Rattle.proof_text.specs.declared.claim.Claim.TheVariants as claims
 use Rattle.proof_text.specs.NumberLaws.{decimal-digits}
 use Rattle.proof_text.specs.Shapes.{IsDigit}
-use Rattle.proof_text.specs.Printable.{IsMultiplier, IsPrintableLine, IsPrintableClaim}
+use Rattle.proof_text.specs.Printable.{IsMultiplier}
 use Rattle.proof_text.specs.Spelling.{further, in_words, pair, cut_word, use_word, line_words, form_words, mark_word, claim_line}
 use Rattle.tree_checker.specs.Accepts.{IsClaim}
 use Rattle.tree_checker.specs.Faults.{IsPrintableOpening}

@@ -9,6 +9,6 @@ mod stack;
 mod text;
 mod verdict;
 
-pub use laws::{accepted_by_lines, accepted_is_true};
+pub use laws::{accepted_by_lines, accepted_is_true, one_verdict};
 pub use text::check;
 pub use verdict::{Reject, RejectKind, Verdict};
