@@ -1,5 +1,13 @@
+pub mod OneVerdict
+pub mod OneStep
+pub mod Unbroken
+pub mod LineLaws
+pub mod Reading
 pub mod Forests
 pub mod Completes
 pub mod Walks
 pub mod Texts
 pub mod StackLaws
+pub mod WordsOf
+pub mod ClaimLaws
+pub mod OpeningLaws
