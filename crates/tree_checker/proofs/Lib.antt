@@ -6,3 +6,4 @@ pub mod StackLaws
 pub mod WordsOf
 pub mod ClaimLaws
 pub mod OpeningLaws
+pub mod NodeLaws

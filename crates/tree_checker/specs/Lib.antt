@@ -1,3 +1,4 @@
+pub mod Lines
 pub mod Accepts
 pub mod Stages
 pub mod Passes
@@ -8,3 +9,4 @@ pub mod Verdicts
 pub mod Stacks
 pub mod Claims
 pub mod Openings
+pub mod Judging

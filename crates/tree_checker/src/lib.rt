@@ -2,9 +2,12 @@
 #![tactic(auto)]
 
 mod claim;
+mod closing;
 mod laws;
+mod node;
 mod opening;
 mod stack;
+mod step;
 mod text;
 mod verdict;
 
