@@ -7,3 +7,4 @@ pub mod WordsOf
 pub mod ClaimLaws
 pub mod OpeningLaws
 pub mod NodeLaws
+pub mod JudgeLaws

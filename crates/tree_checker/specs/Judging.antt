@@ -18,6 +18,10 @@ pub record Judged : Type 0 where
   pub rows : WholeRows
   pub stage : Stage
 
+-- no line is to come
+abbrev pub IsAtEnd : Stage → Type 0
+IsAtEnd stage = (claim : Claim) × (stage ≡ at_end claim)
+
 -- the stage at a step below these splits
 abbrev pub stage_of : Step → Claim → List OpenSplit → List ℤ → Stage
 stage_of steps.Head claimed splits form = at_head

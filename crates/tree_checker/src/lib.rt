@@ -3,6 +3,7 @@
 
 mod claim;
 mod closing;
+mod judge;
 mod laws;
 mod node;
 mod opening;

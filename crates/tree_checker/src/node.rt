@@ -20,7 +20,8 @@ use whole_rows::DenseRows;
 
 /// Judges the first line.
 pub(crate) fn judge_head(text: &[u8]) -> Result<Step, RejectKind>
-    ensures { (rows : WholeRows) (claimed : Claim) (splits : List OpenSplit) (form : List ℤ)
+    ensures step { IfOk result (λ step. step ≡ Step.Claim) }
+    ensures judged { (rows : WholeRows) (claimed : Claim) (splits : List OpenSplit) (form : List ℤ)
         → MatchResult result (λ step. PassesTo rows at_head text.now (stage_of step claimed splits form)) (IsFault rows at_head text.now) }
 {
     if is_head(text) {
@@ -38,7 +39,8 @@ fn is_head(text: &[u8]) -> bool
 
 /// Judges the last line.
 pub(crate) fn judge_done(text: &[u8]) -> Result<Step, RejectKind>
-    ensures { (rows : WholeRows) (claimed : Claim) (splits : List OpenSplit) (form : List ℤ)
+    ensures step { IfOk result (λ step. step ≡ Step.End) }
+    ensures judged { (rows : WholeRows) (claimed : Claim) (splits : List OpenSplit) (form : List ℤ)
         → MatchResult result (λ step. PassesTo rows (at_done claimed) text.now (stage_of step claimed splits form)) (IsFault rows (at_done claimed) text.now) }
 {
     if is_done(text) {
