@@ -8,3 +8,4 @@ pub mod ClaimLaws
 pub mod OpeningLaws
 pub mod NodeLaws
 pub mod JudgeLaws
+pub mod TextLaws

@@ -4,11 +4,13 @@ use Rattle.whole_rows.specs.WholeRows.{WholeRows, IsWithinLimits}
 use Rattle.farkas_rows.specs.declared.line.Use.{Use}
 use Rattle.proof_tree.specs.Trees.{IsOfSize}
 use Rattle.proof_text.specs.declared.claim.Claim.{Claim}
+use Rattle.proof_text.specs.Spelling.{in_lines}
 use Rattle.tree_checker.specs.declared.opening.Range.{Range}
 use Rattle.tree_checker.specs.declared.step.Step.{Step}
 use Rattle.tree_checker.specs.declared.step.Step.TheVariants as steps
 use Rattle.tree_checker.specs.Accepts.{last_of}
 use Rattle.tree_checker.specs.Stages.{OpenSplit, Stage, at_head, at_claim, at_node, at_below, at_above, at_done, at_end}
+use Rattle.tree_checker.specs.Passes.{PassTo}
 use Rattle.tree_checker.specs.Stacks.{Stack}
 use Rattle.tree_checker.specs.Claims.{claim_of}
 use Rattle.tree_checker.specs.Openings.{opening_of}
@@ -63,3 +65,7 @@ pub record IsJudge (rows : WholeRows) (step : Step) (point : List ℤ) (last : O
   pub room : 2 * length rows.rows + 6 * length rows.box + 1 ≤ length items
   pub range : HasRange (length rows.box) stack.splits step
   pub value : HasLast rows step point last
+
+-- the text is lines that pass from its head on, and the next line stands there
+abbrev pub PassesAll : WholeRows → List ℕ → Stage → Type 0
+PassesAll rows text stage = (lines : List (List ℕ)) × (text ≡ in_lines lines) × PassTo rows at_head lines stage
