@@ -59,7 +59,7 @@ more whole old rest word point filled number part left room spells =
     }
 
 -- numbers have one spelling
-same_numbers : (x y : List ℤ) → All IsSmall x → All IsSmall y → map signed_decimal x ≡ map signed_decimal y → x ≡ y
+pub same_numbers : (x y : List ℤ) → All IsSmall x → All IsSmall y → map signed_decimal x ≡ map signed_decimal y → x ≡ y
 same_numbers [] [] h k e = refl
 same_numbers [] (b ∷ y) h k e = absurd cc
 same_numbers (a ∷ x) [] h k e = absurd cc
@@ -72,7 +72,7 @@ same_numbers (a ∷ x) (b ∷ y) h k e =
     let others = same_numbers x y (All-tail IsSmall a x h) (All-tail IsSmall b y k) later in
     cc
 
-optimal : IsWord (codes "OPTIMAL")
+pub optimal : IsWord (codes "OPTIMAL")
 optimal =
     let no = λ (byte : ℕ) (rest : List ℕ). All-cons (λ other. other ≢ 32) byte rest in
     no 79 (80 ∷ 84 ∷ 73 ∷ 77 ∷ 65 ∷ 76 ∷ []) (λ e. omega arith)

@@ -1,3 +1,8 @@
+pub mod OneVerdict
+pub mod OneStep
+pub mod Unbroken
+pub mod LineLaws
+pub mod Reading
 pub mod Forests
 pub mod Completes
 pub mod Walks

@@ -36,11 +36,11 @@ IsSmall z = IsOfSize (2 ^ 96) z
 
 module _ (column : ℕ) (factor : ℤ) (form : List ℤ) where
   -- a factor 0 has no word
-  words_none : factor ≡ pos 0 → form_words column (factor ∷ form) ≡ form_words (suc column) form
+  pub words_none : factor ≡ pos 0 → form_words column (factor ∷ form) ≡ form_words (suc column) form
   words_none e = ap (λ b. if b then form_words (suc column) form else pair (decimal column) factor ∷ form_words (suc column) form) ((Decides-int_eq factor (pos 0)).1 e)
 
   -- another one has
-  words_some : factor ≢ pos 0 → form_words column (factor ∷ form) ≡ pair (decimal column) factor ∷ form_words (suc column) form
+  pub words_some : factor ≢ pos 0 → form_words column (factor ∷ form) ≡ pair (decimal column) factor ∷ form_words (suc column) form
   words_some other = ap (λ b. if b then form_words (suc column) form else pair (decimal column) factor ∷ form_words (suc column) form) (by (int_eq factor (pos 0)) refl)
     where
       by : (b : Bool) → int_eq factor (pos 0) ≡ b → b ≡ false
@@ -52,14 +52,14 @@ pub words_zero : (column : ℕ) (form : List ℤ) → AreZero form → form_word
 words_zero column [] h = refl
 words_zero column (factor ∷ form) h = words_none column factor form (All-head (λ f. f ≡ pos 0) factor form h) ∙ words_zero (suc column) form (All-tail (λ f. f ≡ pos 0) factor form h)
 
-is_zero : (z : ℤ) → (z ≡ pos 0) ⊎ (z ≢ pos 0)
+pub is_zero : (z : ℤ) → (z ≡ pos 0) ⊎ (z ≢ pos 0)
 is_zero z = by (int_eq z (pos 0)) refl
   where
     by : (b : Bool) → int_eq z (pos 0) ≡ b → (z ≡ pos 0) ⊎ (z ≢ pos 0)
     by true e = inl ((Decides-int_eq z (pos 0)).0 e)
     by false e = inr (λ same. let t : int_eq z (pos 0) ≡ true = (Decides-int_eq z (pos 0)).1 same in absurd cc)
 
-form_words-word : (column : ℕ) (form : List ℤ) → All IsWord (form_words column form)
+pub form_words-word : (column : ℕ) (form : List ℤ) → All IsWord (form_words column form)
 form_words-word column [] = All-nil IsWord
 form_words-word column (factor ∷ form) = ⊎_elim
     (λ (e : factor ≡ pos 0). subst (All IsWord) (sym (words_none column factor form e)) (form_words-word (suc column) form))
@@ -224,14 +224,14 @@ not_above : (m n : ℕ) → (n < m → ⊥) → m ≤ n
 not_above m n h = omega (arith, h)
 
 
-mark_is_word : (mark : Mark) → IsWord (mark_word mark)
+pub mark_is_word : (mark : Mark) → IsWord (mark_word mark)
 mark_is_word Thin = All-cons (λ byte. byte ≢ 32) 84 [] (λ e. omega arith) (All-nil (λ byte. byte ≢ 32))
 mark_is_word Plain = All-cons (λ byte. byte ≢ 32) 80 [] (λ e. omega arith) (All-nil (λ byte. byte ≢ 32))
 
-letter : IsWord (codes "S")
+pub letter : IsWord (codes "S")
 letter = All-cons (λ byte. byte ≢ 32) 83 [] (λ e. omega arith) (All-nil (λ byte. byte ≢ 32))
 
-same_mark : (mark other : Mark) → mark_word mark ≡ mark_word other → mark ≡ other
+pub same_mark : (mark other : Mark) → mark_word mark ≡ mark_word other → mark ≡ other
 same_mark Thin Thin e = refl
 same_mark Thin Plain e = absurd (omega (arith, ap (λ word. get_or word 0 0) e))
 same_mark Plain Thin e = absurd (omega (arith, ap (λ word. get_or word 0 0) e))

@@ -14,7 +14,7 @@ use Rattle.proof_text.specs.PrintedShapes.{signed-is_token}
 pub token_word : (word : List ℕ) → IsToken word → IsWord word
 token_word word t = All-weaker (λ byte. (byte ≢ 32) × (byte ≢ 58)) (λ byte. byte ≢ 32) (λ byte both. both.0) word t.1
 
-token_free : (word : List ℕ) → IsToken word → IsFreeOf 58 word
+pub token_free : (word : List ℕ) → IsToken word → IsFreeOf 58 word
 token_free word t = All-weaker (λ byte. (byte ≢ 32) × (byte ≢ 58)) (λ byte. byte ≢ 58) (λ byte both. both.1) word t.1
 
 pub tokens_word : (first second : List ℕ) → IsToken first → IsToken second → IsWord (first ++ 58 ∷ second)
@@ -56,7 +56,7 @@ number_words words h = All-weaker IsNumberWord IsWord number_word words h
 
 -- ---- what a pair is made of
 
-same_cut : (front first back second : List ℕ) → IsFreeOf 58 front → IsFreeOf 58 first → front ++ 58 ∷ back ≡ first ++ 58 ∷ second → (front ≡ first) × (back ≡ second)
+pub same_cut : (front first back second : List ℕ) → IsFreeOf 58 front → IsFreeOf 58 first → front ++ 58 ∷ back ≡ first ++ 58 ∷ second → (front ≡ first) × (back ≡ second)
 same_cut [] [] back second h k e = (refl, cc)
 same_cut [] (byte ∷ first) back second h k e = absurd (All-head (λ other. other ≢ 58) byte first k (cc))
 same_cut (byte ∷ front) [] back second h k e = absurd (All-head (λ other. other ≢ 58) byte front h (cc))

@@ -1,5 +1,5 @@
 -- Why a line does not pass at its place: the first kind that holds.
-use Rattle.std.specs.Prelude.{◌≡◌, ◌⊎◌, ℕ, ◌*◌, ◌^◌, ◌≤◌, ◌<◌, ℤ, pos, ◌≤ℤ◌, List, ◌∷◌, length, map, All, codes, Option, Some, None, IfSome}
+use Rattle.std.specs.Prelude.{◌≡◌, ◌⊎◌, ℕ, ◌*◌, ◌^◌, ◌≤◌, ◌<◌, ℤ, pos, ◌≤ℤ◌, List, ◌∷◌, length, map, All, codes, Option, Some, None}
 use Rattle.std.specs.Fmt.{signed_decimal}
 use Rattle.whole_rows.specs.WholeRows.{WholeRows, Meets, span}
 use Rattle.farkas_rows.specs.Inequalities.{Inequality}
@@ -22,7 +22,7 @@ SpellsNumbers text = (words : List (List ℕ)) × (text ≡ in_words (codes "OPT
 abbrev pub SpellsPoint : List ℕ → List ℤ → Type 0
 SpellsPoint text x = text ≡ in_words (codes "OPTIMAL" ∷ map signed_decimal x)
 
--- the kinds of a line of multipliers, of which only those before `Record` are judged elsewhere
+-- the kinds of a line of multipliers at its place
 abbrev pub IsLineFault : WholeRows → Claim → List OpenSplit → Option Inequality → List ℕ → List ℕ → RejectKind → Type 0
 IsLineFault rows claimed splits end first text kind = IsFaultOn rows (last_of rows claimed) (path_of splits) end first text kind
 

@@ -12,6 +12,6 @@ mod step;
 mod text;
 mod verdict;
 
-pub use laws::{accepted_by_lines, accepted_is_true};
+pub use laws::{accepted_by_lines, accepted_is_true, one_verdict};
 pub use text::check;
 pub use verdict::{Reject, RejectKind, Verdict};
