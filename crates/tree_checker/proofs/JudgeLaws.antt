@@ -1,5 +1,5 @@
 -- What a judge has judged, it keeps.
-use Rattle.std.proofs.Common.{◌≡◌, List, ℕ, ℤ, Option, Some, None, Result, Ok, Err, refl, sym, ap, subst, ◌∙◌}
+use Rattle.std.proofs.Common.{◌≡◌, List, ℕ, ℤ, Option, Some, None, Result, Ok, Err, sym, ap, subst, ◌∙◌}
 use Rattle.std.specs.Prelude.{MatchOption, MatchResult, IfOk}
 use Rattle.whole_rows.specs.WholeRows.{WholeRows}
 use Rattle.proof_text.specs.declared.claim.Claim.{Claim}

@@ -1,8 +1,6 @@
 -- Why a line at a node's place is none.
-use Rattle.std.proofs.Common.{◌≡◌, ◌≢◌, ℕ, ◌+◌, List, ◌∷◌, codes, get_or, None, refl, sym, ap, subst, ◌∙◌, arith, inl, inr}
+use Rattle.std.proofs.Common.{◌≡◌, ◌≢◌, ℕ, List, ◌∷◌, codes, get_or, None, refl, sym, ap, ◌∙◌, arith, inl, inr}
 use Rattle.whole_rows.specs.WholeRows.{WholeRows}
-use Rattle.farkas_rows.specs.Inequalities.{Inequality}
-use Rattle.farkas_rows.specs.declared.path.Slice.{Slice}
 use Rattle.proof_text.specs.declared.claim.Claim.{Claim}
 use Rattle.proof_text.specs.Shapes.{HasLineShape, HasSplitShape}
 use Rattle.proof_text.specs.PrintedShapes.{spelled_line-shape}
@@ -12,7 +10,6 @@ use Rattle.tree_checker.specs.Accepts.{last_of}
 use Rattle.tree_checker.specs.Lines.{IsFaultOn}
 use Rattle.tree_checker.specs.Stages.{OpenSplit, path_of}
 use Rattle.tree_checker.specs.Faults.{IsNodeFault}
-use Rattle.tree_checker.specs.Openings.{IsUnopened}
 
 -- a split does not begin like a line of multipliers
 no_split : (text rest : List ℕ) → text ≡ 69 ∷ rest → HasSplitShape text → ⊥

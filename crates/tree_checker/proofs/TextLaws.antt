@@ -1,17 +1,13 @@
 -- How far the lines of a text have passed.
-use Rattle.std.proofs.Common.{◌≡◌, ◌≢◌, ℕ, ◌+◌, ◌≤◌, ◌<◌, List, [], ◌∷◌, ◌++◌, length, get_or, take, drop, refl, sym, ap, subst, ◌∙◌, arith, append-nil, append_assoc, take-append-drop, inl, inr, ⊎_elim}
+use Rattle.std.proofs.Common.{◌≡◌, ℕ, ◌+◌, ◌≤◌, ◌<◌, List, [], ◌∷◌, ◌++◌, length, get_or, take, drop, refl, sym, ap, subst, ◌∙◌, arith, append-nil, append_assoc, take-append-drop, inl, inr, ⊎_elim}
 use Rattle.std.specs.Prelude.{◌⊎◌}
-use Rattle.std.specs.List.{flat_map}
-use Rattle.std.proofs.lemmas.List.{length-append, length_push, length-take-le, drop_more, take_all, get_or-take}
+use Rattle.std.proofs.lemmas.List.{length-append, length_push, drop_more, take_all}
 use Rattle.std.proofs.lemmas.Bool.{cases_lt}
 use Rattle.whole_rows.specs.WholeRows.{WholeRows}
 use Rattle.proof_text.specs.Spelling.{in_lines}
-use Rattle.tree_checker.specs.declared.verdict.Reject.{Reject}
 use Rattle.tree_checker.specs.Accepts.{longest}
 use Rattle.tree_checker.specs.Stages.{Stage, at_head}
 use Rattle.tree_checker.specs.Passes.{PassesTo, PassTo}
-use Rattle.tree_checker.specs.Rejects.{IsLine, IsTail, IsCutShort, IsRefused, RejectsAt}
-use Rattle.tree_checker.specs.Judging.{IsAtEnd, PassesAll}
 
 -- lines of the text have passed, and the next one has this number
 pub record IsReached (rows : WholeRows) (text rest : List ℕ) (stage : Stage) (number : ℕ) : Type 0 where

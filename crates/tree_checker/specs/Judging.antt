@@ -1,5 +1,5 @@
 -- The place that a judge keeps: the step, the claim, the open splits, and the form of a split that is being opened.
-use Rattle.std.specs.Prelude.{◌≡◌, ℕ, ◌+◌, ◌*◌, ◌^◌, ◌≤◌, ℤ, pos, neg_ℤ, ◌≤ℤ◌, List, length, Option}
+use Rattle.std.specs.Prelude.{◌≡◌, ℕ, ◌+◌, ◌*◌, ◌^◌, ◌≤◌, ℤ, pos, ◌≤ℤ◌, List, length, Option}
 use Rattle.whole_rows.specs.WholeRows.{WholeRows, IsWithinLimits}
 use Rattle.farkas_rows.specs.declared.line.Use.{Use}
 use Rattle.proof_tree.specs.Trees.{IsOfSize}

@@ -96,15 +96,38 @@ impl<'a> Judge<'a> {
             },
             Step::Node => settle(
                 &mut self.step,
-                judge_node(self.rows, &mut self.splits, &mut self.form, self.last, self.items.as_mut_slice(), text),
+                judge_node(
+                    self.rows,
+                    &mut self.splits,
+                    &mut self.form,
+                    self.last,
+                    self.items.as_mut_slice(),
+                    text,
+                ),
             ),
             Step::Below(range) => settle(
                 &mut self.step,
-                judge_below(self.rows, &self.splits, &self.form, range, self.last, self.items.as_mut_slice(), text),
+                judge_below(
+                    self.rows,
+                    &self.splits,
+                    &self.form,
+                    range,
+                    self.last,
+                    self.items.as_mut_slice(),
+                    text,
+                ),
             ),
             Step::Above(range) => settle(
                 &mut self.step,
-                judge_above(self.rows, &mut self.splits, &mut self.form, range, self.last, self.items.as_mut_slice(), text),
+                judge_above(
+                    self.rows,
+                    &mut self.splits,
+                    &mut self.form,
+                    range,
+                    self.last,
+                    self.items.as_mut_slice(),
+                    text,
+                ),
             ),
             Step::Done => settle(&mut self.step, judge_done(text)),
             Step::End => unreachable!(),
@@ -116,7 +139,15 @@ impl<'a> Judge<'a> {
         requires { IsAtEnd self.stage }
         ensures { self.entry.stage ≡ at_end result }
     {
-        let Judge { rows: _, step: _, point, last, splits: _, form: _, items: _ } = self;
+        let Judge {
+            rows: _,
+            step: _,
+            point,
+            last,
+            splits: _,
+            form: _,
+            items: _,
+        } = self;
         match last {
             Some(_) => Claim::Optimal(Vect::of(point)),
             None => Claim::Infeasible,

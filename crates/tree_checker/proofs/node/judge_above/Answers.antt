@@ -1,4 +1,4 @@
-use Rattle.std.proofs.Common.{◌≡◌, ◌∷◌, [], List, ℤ, ◌+ℤ◌, Option, None, Some, length, subst, sym, arith}
+use Rattle.std.proofs.Common.{◌∷◌, [], List, ℤ, ◌+ℤ◌, Option, Some, length, subst, sym, arith}
 use Rattle.std.proofs.lemmas.Int.{ints, to_z-of_z}
 use mir.Val.{SFits}
 use mir.Syntax.{w128}
@@ -32,6 +32,6 @@ returns-clause-judged c =
     let closing : SpellsClosing c.args.rows.now c.args.last c.path.result.now (Some (above c.args.form.now (range.lo +ℤ range.count))) (65 ∷ []) c.args.text.now = simp to_z-of_z at c.in_default.ensures in
     λ claimed e. (
       subst (λ (last : Option ℤ). SpellsClosing c.args.rows.now last (path_of c.args.splits.now.splits) (Some (above c.args.form.now (range.lo +ℤ range.count))) (65 ∷ []) c.args.text.now) e
-      (subst (λ (path : List Slice). SpellsClosing c.args.rows.now c.args.last path (Some (above c.args.form.now (range.lo +ℤ range.count))) (65 ∷ []) c.args.text.now) c.path.ensures.path closing),
+          (subst (λ (path : List Slice). SpellsClosing c.args.rows.now c.args.last path (Some (above c.args.form.now (range.lo +ℤ range.count))) (65 ∷ []) c.args.text.now) c.path.ensures.path closing),
       sym (c.step_into.ensures.into claimed),
     )

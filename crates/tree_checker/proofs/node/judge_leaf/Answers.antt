@@ -1,4 +1,4 @@
-use Rattle.std.proofs.Common.{◌≡◌, ◌∷◌, [], List, ℤ, Option, None, length, subst}
+use Rattle.std.proofs.Common.{◌∷◌, [], List, ℤ, Option, None, length, subst}
 use Rattle.farkas_rows.specs.declared.path.Slice.{Slice}
 use Rattle.tree_checker.specs.Lines.{IsFaultOn}
 use Rattle.tree_checker.specs.Stages.{path_of}

@@ -1,4 +1,4 @@
-use Rattle.std.proofs.Common.{ℕ, ◌^◌, ◌<◌, length, ap, subst, arith}
+use Rattle.std.proofs.Common.{◌^◌, ◌<◌, length, ap, subst, arith}
 use Rattle.whole_rows.specs.WholeRows.{WholeRows}
 use Rattle.tree_checker.specs.Stages.{Stage, at_head, at_end}
 use Rattle.tree_checker.specs.Passes.{PassTo, PassesWhole}

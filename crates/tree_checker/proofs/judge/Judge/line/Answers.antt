@@ -1,6 +1,4 @@
-use Rattle.std.proofs.Common.{◌≡◌, length, ap, sym, subst, ◌∙◌}
-use Rattle.std.specs.Prelude.{MatchOption, MatchResult, IfOk}
-use Rattle.tree_checker.specs.declared.step.Step.{Step}
+use Rattle.std.proofs.Common.{length, ap, sym, subst, ◌∙◌}
 use Rattle.tree_checker.specs.declared.step.Step.TheVariants as steps
 use Rattle.tree_checker.specs.Claims.{claim_of}
 use Rattle.tree_checker.specs.Stages.{at_head, at_done}
