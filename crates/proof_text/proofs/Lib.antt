@@ -3,3 +3,10 @@ pub mod CutWords
 pub mod ShapeLaws
 pub mod ReadLaws
 pub mod ItemLaws
+pub mod PathLengths
+pub mod CutLines
+pub mod LineReads
+pub mod SplitReads
+pub mod HeadReads
+pub mod TreeReads
+pub mod TextReads

@@ -145,7 +145,8 @@ digits_word : (word : List ℕ) → IsDigitsWord word → IsWord word
 digits_word [] h = absurd h
 digits_word (first ∷ digits) h = All-cons (λ byte. byte ≢ 32) first digits (λ e. omega (arith, h.0, e)) (All-weaker IsDigit (λ byte. byte ≢ 32) (λ byte d e. omega (arith, d.0, e)) digits h.2)
 
-number_is_word : (word : List ℕ) → IsNumberWord word → IsWord word
+-- a number has no blank
+pub number_is_word : (word : List ℕ) → IsNumberWord word → IsWord word
 number_is_word word n = ⊎_elim
     (λ (none : word ≡ codes "0"). subst IsWord (sym none) (blank_free (codes "0") refl))
     (⊎_elim (digits_word word)

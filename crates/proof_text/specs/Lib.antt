@@ -4,6 +4,7 @@ pub mod Shapes
 pub mod Words
 pub mod WordLaws
 pub mod Lent
+pub mod Lines
 pub mod Numbers
 pub mod NumberLaws
 pub mod Items
@@ -13,4 +14,7 @@ pub mod PrintedShapes
 pub mod LineLengths
 pub mod OneLine
 pub mod OneSplit
+pub mod PrintedLines
+pub mod OneReading
 pub mod SplitLengths
+pub mod Reads

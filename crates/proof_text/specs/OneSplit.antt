@@ -18,8 +18,9 @@ use Rattle.proof_text.specs.PairLaws.{token_word, pairs_words, words_behind}
 use Rattle.proof_text.specs.PrintedShapes.{form_words-pairs, mark-token}
 use Rattle.proof_text.specs.OneLine.{same_pair, value_size}
 
-factor_size : (z : ℤ) → IsOfSize (2 ^ 96) z → IsOfSize (2 ^ 126) z
-factor_size z h = (omega (arith, ints, h.0), omega (arith, ints, h.1))
+-- a factor, or a value of a point, is small enough to be spelled in one way
+pub value_of_size : (z : ℤ) → IsOfSize (2 ^ 96) z → IsOfSize (2 ^ 126) z
+value_of_size z h = (omega (arith, ints, h.0), omega (arith, ints, h.1))
 
 count_size : (z : ℤ) → (pos 0 ≤ℤ z) × (z ≤ℤ pos (2 ^ 98)) → IsOfSize (2 ^ 126) z
 count_size z h = (omega (arith, ints, h.0), omega (arith, ints, h.1))
@@ -45,9 +46,10 @@ zero_or_some z = ⊎_elim
     (λ (t : int_eq z (pos 0) ≡ false). inr (λ e. let u : int_eq z (pos 0) ≡ true = (Decides-int_eq z (pos 0)).1 e in absurd (true≢false (sym u ∙ t))))
     (cases_Bool (int_eq z (pos 0)))
 
-same_factor_word : (column other : ℕ) (y z : ℤ) → column < 10 ^ 64 → other < 10 ^ 64 → IsOfSize (2 ^ 96) y → IsOfSize (2 ^ 96) z → pair (decimal column) y ≡ pair (decimal other) z → (column ≡ other) × (y ≡ z)
+-- two words of a form that are the same have the same column and factor
+pub same_factor_word : (column other : ℕ) (y z : ℤ) → column < 10 ^ 64 → other < 10 ^ 64 → IsOfSize (2 ^ 96) y → IsOfSize (2 ^ 96) z → pair (decimal column) y ≡ pair (decimal other) z → (column ≡ other) × (y ≡ z)
 same_factor_word column other y z c d h k e =
-    let parts = same_pair (decimal column) (decimal other) y z (decimal-token column c) (decimal-token other d) (factor_size y h) (factor_size z k) e in
+    let parts = same_pair (decimal column) (decimal other) y z (decimal-token column c) (decimal-token other d) (value_of_size y h) (value_of_size z k) e in
     (decimal-same column other c d parts.0, parts.1)
 
 -- the words of further columns do not begin with a factor of this one
@@ -103,7 +105,8 @@ pub record IsSmallSplit (lo count : ℤ) (form : List ℤ) : Type 0 where
   pub factors : All (IsOfSize (2 ^ 96)) form
   pub narrow : length form ≤ 256
 
-split_words-are : (mark : Mark) (lo count : ℤ) (form : List ℤ) → IsSmallSplit lo count form → All IsWord (mark_word mark ∷ signed_decimal lo ∷ signed_decimal count ∷ form_words 0 form)
+-- what stands behind its first word are words
+pub split_words-are : (mark : Mark) (lo count : ℤ) (form : List ℤ) → IsSmallSplit lo count form → All IsWord (mark_word mark ∷ signed_decimal lo ∷ signed_decimal count ∷ form_words 0 form)
 split_words-are mark lo count form h =
     All-cons IsWord (mark_word mark) (signed_decimal lo ∷ signed_decimal count ∷ form_words 0 form) (token_word (mark_word mark) (mark-token mark))
     (All-cons IsWord (signed_decimal lo) (signed_decimal count ∷ form_words 0 form) (token_word (signed_decimal lo) (signed-token lo (value_size lo h.first)))

@@ -49,9 +49,14 @@ onto_some k n = ⊎_elim
     omega (arith, onto_length k (n / 10) (digit_glyph false (n % 10) ∷ []), ap (λ b. length (if b then digit_glyph false (n % 10) ∷ [] else digits_onto k 10 false (n / 10) (digit_glyph false (n % 10) ∷ []))) t))
     (cases_Bool (n / 10 == 0))
 
+-- a number without a sign is digits alone
+pub decimal-all_digits : (n : ℕ) → All IsDigit (decimal n)
+unfolding digits
+decimal-all_digits n = onto_digits 64 n [] (All-nil IsDigit)
+
 decimal-is_token : (n : ℕ) → IsToken (decimal n)
 unfolding digits
-decimal-is_token n = (λ none. omega (arith, onto_some 63 n, ap length none), digits_token (decimal n) (onto_digits 64 n [] (All-nil IsDigit)))
+decimal-is_token n = (λ none. omega (arith, onto_some 63 n, ap length none), digits_token (decimal n) (decimal-all_digits n))
 
 -- a spelled number is a token
 pub signed-is_token : (z : ℤ) → IsToken (signed_decimal z)

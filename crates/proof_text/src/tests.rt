@@ -1,8 +1,21 @@
 //! Worked words, lines and printed records, by hand.
 use super::*;
-use farkas_rows::{CutUse, Line, Use, Uses};
+use farkas_rows::{CutUse, Line, Path, Use, Uses};
+use proof_tree::holds;
 use spaces::Vect;
+use std::alloc::Global;
 use std::test::Fail;
+use whole_rows::{Bounds, DenseRows};
+
+/// At most 12 = 3x + 2y and at most 6 = x + 2y, the costs -5 and -4, x and y from 0 to 10.
+fn two_constraints(alloc: Global) -> Result<DenseRows, Fail> {
+    let bounds = [Bounds { low: 0, high: 10 }; 2];
+    let mut rows = DenseRows::new(alloc, bounds.to_vec(alloc)?)?;
+    rows.push_row(&[3, 2], None, Some(12))?;
+    rows.push_row(&[1, 2], None, Some(6))?;
+    rows.set_cost(&[-5, -4])?;
+    Ok(rows)
+}
 
 #[test]
 fn reads_numbers(rt: HostRuntime) {
@@ -73,5 +86,53 @@ fn prints_lines(rt: HostRuntime) -> Result<(), Fail> {
     };
     let text = print_record(alloc, &Record::Close(&line))?;
     assert_eq!(rt; text.items(), b"E Z-20:3 0:5 8:2\n".as_slice());
+    Ok(())
+}
+
+#[test]
+fn reads_a_proof(rt: HostRuntime) -> Result<(), Fail> {
+    let alloc = rt.alloc();
+    let rows = two_constraints(alloc)?;
+    let text = b"SLICER 1\nOPTIMAL 4 0\nS T 2 0 1:1\nB Z-20:3 0:5 8:2\nA Z-20:1 2:5 8:6\nDONE\n";
+    let proof = read_proof(alloc, &rows, text)?.expect(&rt, "a proof");
+    assert!(rt;
+        matches!(&proof.claim, Claim::Optimal(point) if point.items() == [4, 0].as_slice())
+    );
+    let path = Path::new(alloc);
+    assert!(rt; holds(alloc, &rows, &path, Some(-20), &proof.tree)?);
+    assert!(rt; !holds(alloc, &rows, &path, Some(-19), &proof.tree)?);
+    Ok(())
+}
+
+#[test]
+fn tells_proofs(rt: HostRuntime) -> Result<(), Fail> {
+    let alloc = rt.alloc();
+    let rows = two_constraints(alloc)?;
+    let cases: [(&[u8], bool); 8] = [
+        // A child on the slice x = 0, with the slice as number 8.
+        (
+            b"SLICER 1\nINFEASIBLE\nS P 0 1 0:1\nB 5:1\nA 4:1\nE 8:1\nDONE\n",
+            true,
+        ),
+        // More children than lines, the number of a slice that is not there, a multiplier with a leading 0.
+        (
+            b"SLICER 1\nINFEASIBLE\nS P 0 99999999999999999999 0:1\nB 5:1\nA 4:1\nE 8:1\nDONE\n",
+            false,
+        ),
+        (
+            b"SLICER 1\nINFEASIBLE\nS P 0 1 0:1\nB 5:1\nA 4:1\nE 10:1\nDONE\n",
+            false,
+        ),
+        (b"SLICER 1\nINFEASIBLE\nE 5:01\nDONE\n", false),
+        // No upper line, nothing behind `DONE`, something behind it, an open claim.
+        (b"SLICER 1\nINFEASIBLE\nS P 0 0 0:1\nB 5:1\nDONE\n", false),
+        (b"SLICER 1\nINFEASIBLE\nE 5:1\nDONE", false),
+        (b"SLICER 1\nINFEASIBLE\nE 5:1\nDONE\n\n", false),
+        (b"SLICER 1\nOPEN\nE 5:1\nDONE\n", false),
+    ];
+    for (text, is_proof) in cases {
+        assert!(rt; text.len() <= 1000);
+        assert_eq!(rt; read_proof(alloc, &rows, text)?.is_some(), is_proof);
+    }
     Ok(())
 }
