@@ -11,3 +11,6 @@ pub mod StackLaws
 pub mod WordsOf
 pub mod ClaimLaws
 pub mod OpeningLaws
+pub mod NodeLaws
+pub mod JudgeLaws
+pub mod TextLaws

@@ -1,5 +1,5 @@
 -- What is read of the first line of a split is what it spells.
-use Rattle.std.proofs.Common.{◌≡◌, ◌≢◌, ℕ, zero, suc, ◌+◌, ◌-◌, ◌*◌, ◌^◌, ◌<◌, ◌≤◌, ℤ, pos, neg_ℤ, ◌≤ℤ◌, ◌<ℤ◌, Bool, true, false, List, [], ◌∷◌, ◌++◌, length, take, drop, set, get_or, map, All, codes, decimal, Option, Some, None, refl, sym, ap, subst, ◌∙◌, arith, add-one, inl, inr, ◌⊎◌, ⊎_elim}
+use Rattle.std.proofs.Common.{◌≡◌, ◌≢◌, ℕ, zero, suc, ◌+◌, ◌-◌, ◌*◌, ◌^◌, ◌<◌, ◌≤◌, ℤ, pos, Bool, true, false, List, [], ◌∷◌, ◌++◌, length, drop, set, get_or, All, codes, decimal, refl, sym, ap, subst, ◌∙◌, arith, inl, inr, ◌⊎◌, ⊎_elim}
 use Rattle.std.specs.Prelude.{if◌then◌else◌, replicate}
 use Rattle.std.specs.Fmt.{signed_decimal}
 use Rattle.std.specs.Ordering.{int_eq}
@@ -223,7 +223,6 @@ all_read columns whole old form next part none = (part.read ∙ ap (λ words. fo
 not_above : (m n : ℕ) → (n < m → ⊥) → m ≤ n
 not_above m n h = omega (arith, h)
 
-
 pub mark_is_word : (mark : Mark) → IsWord (mark_word mark)
 mark_is_word Thin = All-cons (λ byte. byte ≢ 32) 84 [] (λ e. omega arith) (All-nil (λ byte. byte ≢ 32))
 mark_is_word Plain = All-cons (λ byte. byte ≢ 32) 80 [] (λ e. omega arith) (All-nil (λ byte. byte ≢ 32))
@@ -303,19 +302,24 @@ module _ (rows : WholeRows) (text : List ℕ) (words : SplitWords) (are : AreSpl
         let lo = spells.lo.0 in
         let count = spells.count.0 in
         let formed = read.0 in
-        let whole : in_words (codes "S" ∷ mark_word words.mark ∷ words.lo.now ∷ words.count.now ∷ words.form) ≡ in_words (codes "S" ∷ mark_word range.mark ∷ signed_decimal range.lo ∷ signed_decimal range.count ∷ form_words 0 form) = cc in
-        (are.spelled ∙ whole, record {
-          dense = dense;
-          some = not_zero;
-          factors = read.1;
-          lo = (spells.lo.1, spells.lo.2);
-          count = (spells.count.1, spells.count.2);
-        })
+        let whole : in_words (codes "S" ∷ mark_word words.mark ∷ words.lo.now ∷ words.count.now ∷ words.form) ≡ in_words (codes "S" ∷ mark_word range.mark ∷ signed_decimal range.lo ∷ signed_decimal range.count ∷ form_words 0 form) = cc in (
+          are.spelled ∙ whole,
+          record {
+            dense = dense;
+            some = not_zero;
+            factors = read.1;
+            lo = (spells.lo.1, spells.lo.2);
+            count = (spells.count.1, spells.count.2);
+          },
+        )
 
     pub is_opening : (splits : List OpenSplit) → (IsTooDeep rows splits (opening_of range form) → ⊥) → span form rows.box ≤ 2 ^ 96 → Opens rows splits text (opening_of range form)
-    is_opening splits shallow light = (spells_opening.0, record {
-      form = record { dense = dense; some = not_zero; light = light };
-      lo = (spells.lo.1, spells.lo.2);
-      count = (spells.count.1, spells.count.2);
-      room = λ some. not_above (length splits + 1) (2 * length rows.box) (λ above. shallow (omega (arith, above), some));
-    })
+    is_opening splits shallow light = (
+      spells_opening.0,
+      record {
+        form = record { dense = dense; some = not_zero; light = light };
+        lo = (spells.lo.1, spells.lo.2);
+        count = (spells.count.1, spells.count.2);
+        room = λ some. not_above (length splits + 1) (2 * length rows.box) (λ above. shallow (omega (arith, above), some));
+      },
+    )

@@ -5,14 +5,13 @@ use Rattle.std.specs.Ordering.{int_eq}
 use Rattle.std.proofs.lemmas.Bool.Decides.{Decides-int_eq}
 use Rattle.std.proofs.lemmas.Int.{ints}
 use Rattle.std.proofs.lemmas.List.{length-set, get_or-set_same, get_or-set_other, set-get_or, get_or_read}
-use Rattle.std.proofs.lemmas.List.Elements.{All-nil, All-cons, All-head, All-tail, All-set, All-get_or}
+use Rattle.std.proofs.lemmas.List.Elements.{All-cons, All-head, All-tail, All-set, All-get_or}
 use Rattle.std.proofs.Math.Seq.{take-suc}
 use mir.Syntax.{w128}
 use mir.Val.{SFits}
 use Rattle.farkas_rows.specs.declared.path.Slice.{Slice}
-use Rattle.farkas_rows.specs.Refutes.{HasForms}
 use Rattle.proof_text.specs.declared.claim.Claim.{Claim}
-use Rattle.tree_checker.specs.Stages.{OpenSplit, Stage, at_node, at_done, path_of, behind}
+use Rattle.tree_checker.specs.Stages.{OpenSplit, at_node, path_of, behind}
 use Rattle.tree_checker.specs.Stacks.{slice_at, split_at, splits_of, IsInHand, IsStack}
 
 pub length-splits_of : (slices : List Slice) (ends : List ℤ) (depth : ℕ) → length (splits_of slices ends depth) ≡ depth
@@ -175,9 +174,9 @@ module _ (columns : ℕ) (slices : List Slice) (ends : List ℤ) (depth last : �
       ap (behind claimed) split_is
       ∙ behind_other claimed (made slice end) (splits_of slices ends last) other
       ∙ ap (at_node claimed) (
-        ap (λ e. made (record { form = slice.form; beta = slice.beta +ℤ pos 1 }) e ∷ splits_of slices ends last) end_there
-        ∙ sym (stepped slices ends last (record { form = slice.form; beta = slice.beta +ℤ pos 1 }) within)
-        ∙ sym (ap (splits_of (set slices last (record { form = slice.form; beta = slice.beta +ℤ pos 1 })) ends) counted)
+      ap (λ e. made (record { form = slice.form; beta = slice.beta +ℤ pos 1 }) e ∷ splits_of slices ends last) end_there
+      ∙ sym (stepped slices ends last (record { form = slice.form; beta = slice.beta +ℤ pos 1 }) within)
+      ∙ sym (ap (splits_of (set slices last (record { form = slice.form; beta = slice.beta +ℤ pos 1 })) ends) counted)
       )
 
   unchanged : set slices last slice ≡ slices

@@ -9,3 +9,4 @@ pub mod Verdicts
 pub mod Stacks
 pub mod Claims
 pub mod Openings
+pub mod Judging

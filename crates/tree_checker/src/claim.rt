@@ -41,7 +41,10 @@ pub(crate) fn judge_claim(
 fn is_infeasible(text: &[u8]) -> bool
     ensures { IsTrue result ↔ (text.now ≡ codes "INFEASIBLE") }
 {
-    matches!(text, [b'I', b'N', b'F', b'E', b'A', b'S', b'I', b'B', b'L', b'E'])
+    matches!(
+        text,
+        [b'I', b'N', b'F', b'E', b'A', b'S', b'I', b'B', b'L', b'E']
+    )
 }
 
 /// Reads the numbers of a point, as many as there is room for, none larger than 2 to the power 96 in size. False where

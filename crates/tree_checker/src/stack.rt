@@ -63,6 +63,7 @@ impl OpenSplits {
     /// Lends the slices that lead to the node, the outermost first.
     pub(crate) fn path(&self) -> &[Slice]
         ensures path { result.now ≡ path_of self.now.splits }
+        ensures short { length result.now ≤ 2 * self.now.columns }
         ensures dense { HasForms self.now.columns result.now }
     {
         &self.slices[..self.depth]

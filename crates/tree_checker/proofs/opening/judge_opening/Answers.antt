@@ -1,4 +1,4 @@
-use Rattle.std.proofs.Common.{◌≤◌, ◌<◌, ◌*◌, ◌^◌, pos, ◌≤ℤ◌, length, inr, sym, ◌∙◌, arith}
+use Rattle.std.proofs.Common.{◌<◌, ◌^◌, length, inr, sym, ◌∙◌, arith}
 use Rattle.std.proofs.lemmas.Bool.{iff_false}
 use Rattle.std.proofs.lemmas.Int.{ints}
 use Rattle.whole_rows.specs.WholeRows.{span}
@@ -17,8 +17,11 @@ returns-in_default-read_range-clause-opened c = λ splits same.
 pub returns-then-not-read_form-clause-opened : goal.returns-then-not-read_form-clause-opened
 returns-then-not-read_form-clause-opened c = λ splits same.
     let none = c.if-not-read_form.ensures in
-    inr (split_shape c.args.rows.now c.args.text.now c.in-Some.words c.in-Some.ensures, λ opening spells.
-    no_form c.args.rows.now c.args.text.now c.in-Some.words c.in-Some.ensures (length c.args.form.now) c.requires.dense (λ form long read. none.read form long (c.again.ensures ∙ read.0, read.1)) opening spells)
+    inr (
+      split_shape c.args.rows.now c.args.text.now c.in-Some.words c.in-Some.ensures,
+      λ opening spells.
+          no_form c.args.rows.now c.args.text.now c.in-Some.words c.in-Some.ensures (length c.args.form.now) c.requires.dense (λ form long read. none.read form long (c.again.ensures ∙ read.0, read.1)) opening spells,
+    )
 
 pub returns-then-is_too_deep-clause-opened : goal.returns-then-is_too_deep-clause-opened
 returns-then-is_too_deep-clause-opened c = λ splits same.
@@ -29,8 +32,10 @@ returns-then-is_too_deep-clause-opened c = λ splits same.
     let deep = c.is_too_deep.ensures.0 c.if-is_too_deep.true in
     let spells = c.in-Some-read_range.ensures in
     let too_deep : IsTooDeep c.args.rows.now splits (opening_of range form) = (omega (arith, same, deep.0), omega (arith, ints, deep.1, spells.count.1, spells.count.2)) in
-    inr (split_shape c.args.rows.now c.args.text.now c.in-Some.words c.in-Some.ensures,
-    (opening_of range form, spells_opening c.args.rows.now c.args.text.now c.in-Some.words c.in-Some.ensures range form spells read (has.dense ∙ c.requires.dense), too_deep))
+    inr (
+      split_shape c.args.rows.now c.args.text.now c.in-Some.words c.in-Some.ensures,
+      (opening_of range form, spells_opening c.args.rows.now c.args.text.now c.in-Some.words c.in-Some.ensures range form spells read (has.dense ∙ c.requires.dense), too_deep),
+    )
 
 pub returns-then-not-is_light-clause-opened : goal.returns-then-not-is_light-clause-opened
 returns-then-not-is_light-clause-opened c = λ splits same.
@@ -42,13 +47,15 @@ returns-then-not-is_light-clause-opened c = λ splits same.
     let shallow = iff_false c.is_too_deep.ensures c.if-is_too_deep.false in
     let heavy = iff_false c.is_light.ensures c.if-not-is_light.true in
     let above : 2 ^ 96 < span form c.args.rows.now.box = omega (arith, heavy) in
-    inr (split_shape c.args.rows.now c.args.text.now c.in-Some.words c.in-Some.ensures,
-    (
-      opening_of range form,
-      spells_opening c.args.rows.now c.args.text.now c.in-Some.words c.in-Some.ensures range form spells read (has.dense ∙ c.requires.dense),
-      λ deep. shallow (omega (arith, same, deep.0), omega (arith, ints, deep.1, spells.count.1, spells.count.2)),
-      above,
-    ))
+    inr (
+      split_shape c.args.rows.now c.args.text.now c.in-Some.words c.in-Some.ensures,
+      (
+        opening_of range form,
+        spells_opening c.args.rows.now c.args.text.now c.in-Some.words c.in-Some.ensures range form spells read (has.dense ∙ c.requires.dense),
+        λ deep. shallow (omega (arith, same, deep.0), omega (arith, ints, deep.1, spells.count.1, spells.count.2)),
+        above,
+      ),
+    )
 
 pub returns-clause-opened : goal.returns-clause-opened
 returns-clause-opened c = λ splits same.

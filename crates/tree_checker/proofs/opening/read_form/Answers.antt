@@ -1,4 +1,4 @@
-use Rattle.std.proofs.Common.{length, ℤ, ap, sym, ◌∙◌, subst, ◌<◌, arith}
+use Rattle.std.proofs.Common.{length, ap, arith}
 use Rattle.std.proofs.lemmas.Int.{ints, to_z-of_z}
 use mir.Val.{SFits}
 use mir.Syntax.{w128}
@@ -21,6 +21,6 @@ loop-next-preserved c =
     let read = c.in-Some-next_factor.ensures in
     let one : SFits w128 factor.factor = fits factor.factor (omega (arith, ints, read.0.size.0)) (omega (arith, ints, read.0.size.1)) in
     rw c.set.ensures (simp to_z-of_z (
-      more_form (length c.args.form.now) c.requires c.args.words c.loop-next.words c.next.new.self c.in-Some.word.now c.loop-next.form c.loop-next.next c.loop-next.invariant c.in-Some.ensures factor read.0 read.1
-      (omega (arith, read.2, c.loop-next.invariant.long, ap length c.items.ensures))
+    more_form (length c.args.form.now) c.requires c.args.words c.loop-next.words c.next.new.self c.in-Some.word.now c.loop-next.form c.loop-next.next c.loop-next.invariant c.in-Some.ensures factor read.0 read.1
+    (omega (arith, read.2, c.loop-next.invariant.long, ap length c.items.ensures))
     ))

@@ -1,4 +1,4 @@
-use Rattle.std.proofs.Common.{◌≡◌, ◌*◌, ◌≤◌, length, sym, ap, ◌∙◌, arith}
+use Rattle.std.proofs.Common.{length, sym, ap, ◌∙◌, arith}
 use Rattle.tree_checker.specs.Stacks.{Stack}
 use Rattle.tree_checker.proofs.StackLaws.{length-splits_of}
 use Rattle.tree_checker.proofs.stack.OpenSplits.depth.Goals as goal

@@ -1,11 +1,10 @@
-use Rattle.std.proofs.Common.{◌≡◌, ℕ, ◌*◌, ◌<◌, ◌∷◌, length, ap, sym, subst, ◌∙◌, arith}
+use Rattle.std.proofs.Common.{◌≡◌, ◌*◌, ◌<◌, ◌∷◌, length, ap, sym, ◌∙◌, arith}
 use Rattle.std.proofs.lemmas.Int.{ints, to_z-of_z}
-use Rattle.std.proofs.lemmas.List.{get_or_read}
 use Rattle.std.proofs.lemmas.List.Elements.{All-get_or}
 use mir.Val.{SFits}
 use mir.Syntax.{w128}
 use Rattle.farkas_rows.specs.declared.path.Slice.{Slice}
-use Rattle.tree_checker.specs.Stacks.{Stack, splits_of}
+use Rattle.tree_checker.specs.Stacks.{Stack}
 use Rattle.tree_checker.proofs.StackLaws.{fits, length-splits_of, enter_stack, enter_splits}
 use Rattle.tree_checker.proofs.stack.OpenSplits.enter.Goals as goal
 
@@ -34,8 +33,8 @@ returns-clause-entered c =
     let one : SFits w128 c.args.from = fits c.args.from (omega (arith, ints, c.requires.low)) (omega (arith, ints, c.requires.some, c.requires.high)) in
     let two : SFits w128 c.args.until = fits c.args.until (omega (arith, ints, c.requires.low, c.requires.some)) (omega (arith, ints, c.requires.high)) in
     rw c.swap.ensures.x_after (simp to_z-of_z (
-      ap (λ splits. record { columns = s.columns; splits = splits }) (enter_splits s.columns s.slices.items s.ends.items s.depth c.self.invariant c.args.form.now c.args.from c.args.until room)
-      ∙ ap (λ (stack : Stack). record { columns = stack.columns; splits = record { form = c.args.form.now; value = c.args.from; until = c.args.until } ∷ stack.splits }) c.self.view_is
+    ap (λ splits. record { columns = s.columns; splits = splits }) (enter_splits s.columns s.slices.items s.ends.items s.depth c.self.invariant c.args.form.now c.args.from c.args.until room)
+    ∙ ap (λ (stack : Stack). record { columns = stack.columns; splits = record { form = c.args.form.now; value = c.args.from; until = c.args.until } ∷ stack.splits }) c.self.view_is
     ))
 
 pub returns-clause-dense : goal.returns-clause-dense

@@ -1,4 +1,4 @@
-use Rattle.std.proofs.Common.{◌≡◌, ℕ, suc, ◌-◌, ◌≢◌, ℤ, pos, ◌+ℤ◌, sym, ap, ◌∙◌, arith}
+use Rattle.std.proofs.Common.{◌≡◌, ℕ, suc, ◌-◌, ◌≢◌, pos, ◌+ℤ◌, ◌∙◌, arith}
 use Rattle.std.proofs.lemmas.Int.{ints, to_z-of_z}
 use mir.Val.{SFits}
 use mir.Syntax.{w128}
@@ -37,7 +37,7 @@ returns-then-next-end-clause-behind c =
     let two : SFits w128 (slice.beta +ℤ pos 1) = fits (slice.beta +ℤ pos 1) (omega (arith, ints, bounds)) (omega (arith, ints, bounds)) in
     let other : slice.beta +ℤ pos 1 ≢ c.index-end.result.now = omega (arith, ints, bounds) in
     simp to_z-of_z (λ claimed. c.loop-self.invariant.same claimed
-        ∙ step_behind s.columns s.slices.items s.ends.items s.depth last counted c.loop-self.invariant.stack slice c.index_mut-slice.ensures.value c.index-end.result.now c.index-end.ensures claimed other)
+    ∙ step_behind s.columns s.slices.items s.ends.items s.depth last counted c.loop-self.invariant.stack slice c.index_mut-slice.ensures.value c.index-end.result.now c.index-end.ensures claimed other)
 
 pub loop-self-preserved : goal.loop-self-preserved
 loop-self-preserved c =
