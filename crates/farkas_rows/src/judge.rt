@@ -122,8 +122,27 @@ pub fn refutes_parts<'a>(
     let Weight::Within(_) = weigh_parts(rows, path, end, cut, items) else {
         return false;
     };
+    comes_to_negative(rows, path, end, cut, items)
+}
+
+/// Whether the left sides of a line of these parts come to 0 in each column, and the limits to less than 0. The line's
+/// multipliers are in range, its numbers name inequalities of the node, and it is not too heavy. It takes no memory.
+pub fn comes_to_negative<'a>(
+    rows: &'a DenseRows,
+    path: &'a [Slice],
+    end: &'a End<'a>,
+    cut: &Option<CutUse>,
+    items: &[Use],
+) -> bool
+    requires path { HasForms (length rows.now.box) path.now }
+    requires end { IfSome (inequality_of end.now) (IsDense (length rows.now.box)) }
+    requires there { All (λ item. IsSome (inequality_at rows.now path.now (inequality_of end.now) item.index)) items.now }
+    requires multipliers { All IsMultiplier (multipliers (line_of cut.now items.now)) }
+    requires light { line_weight rows.now path.now (inequality_of end.now) (line_of cut.now items.now) ≤ℤ pos (2 ^ 126) }
+    ensures { IsTrue result ↔ ComesToNegative (length rows.now.box) (multipliers (line_of cut.now items.now)) (used rows.now path.now (inequality_of end.now) (line_of cut.now items.now)) }
+{
     let mut sums = [0; MOST_COLUMNS];
-    comes_to_negative(rows, path, end, cut, items, &mut sums[..rows.columns()])
+    sums_to_negative(rows, path, end, cut, items, &mut sums[..rows.columns()])
 }
 
 /// Whether the numbers rise.
@@ -183,9 +202,8 @@ fn is_multiplier(times: i128) -> bool
     0 < times && times <= HEAVIEST
 }
 
-/// Whether the left sides of the combination come to 0 in each column, and the limits to less than 0. The sums of the
-/// columns are 0 before.
-fn comes_to_negative<'a>(
+/// The same with the sums of the columns, which are 0 before.
+fn sums_to_negative<'a>(
     rows: &'a DenseRows,
     path: &'a [Slice],
     end: &'a End<'a>,

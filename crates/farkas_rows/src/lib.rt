@@ -10,7 +10,7 @@ mod path;
 mod side;
 
 pub use fracs::{CutFrac, FracUse, LineStop, OriginalTimes, from_fracs};
-pub use judge::{refutes, refutes_parts, weigh, weigh_parts};
+pub use judge::{comes_to_negative, refutes, refutes_parts, weigh, weigh_parts};
 pub use laws::refuted_node_has_no_point;
 pub use line::{CutUse, End, Line, Use, Uses, Weight};
 pub use node::has_side;

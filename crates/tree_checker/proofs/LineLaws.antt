@@ -2,6 +2,7 @@
 use Rattle.std.proofs.Common.{◌≡◌, ◌≢◌, ℕ, zero, suc, ◌+◌, ◌*◌, ◌^◌, ◌<◌, ◌≤◌, ℤ, List, [], ◌∷◌, ◌++◌, length, get_or, map, All, Option, Some, None, IfSome, IsSome, decimal, option_map, option_to_list, refl, sym, ap, subst, ◌∙◌, arith, true≢false}
 use Rattle.std.specs.Fmt.{signed_decimal}
 use Rattle.std.proofs.lemmas.Int.{ints}
+use Rattle.std.proofs.lemmas.List.Splits.{length-slice_split}
 use Rattle.std.proofs.lemmas.List.Elements.{All-nil, All-cons, All-head, All-tail, All-weaker}
 use Rattle.proof_tree.specs.Trees.{IsOfSize}
 use Rattle.whole_rows.specs.WholeRows.{WholeRows, IsWithinLimits}
@@ -14,15 +15,15 @@ use Rattle.farkas_rows.specs.Refutes.{multipliers, line_of}
 use Rattle.proof_text.specs.declared.items.Item.{Item}
 use Rattle.proof_text.specs.declared.items.Item.TheVariants as items
 use Rattle.proof_text.specs.Items.{SpellsItem}
-use Rattle.proof_text.specs.Shapes.{IsToken, IsDigit, ArePairs}
-use Rattle.proof_text.specs.Words.{IsWord}
-use Rattle.proof_text.specs.WordLaws.{same_words}
+use Rattle.proof_text.specs.Shapes.{HasLineShape, IsToken, IsDigit, ArePairs}
+use Rattle.proof_text.specs.Words.{is_blank, IsWord, words_of}
+use Rattle.proof_text.specs.WordLaws.{same_words, words_of-in, in_words-of}
 use Rattle.proof_text.specs.NumberLaws.{decimal-digits, decimal-same}
 use Rattle.proof_text.specs.TokenLaws.{decimal-token, signed-token, signed-same, token-cons}
 use Rattle.proof_text.specs.PrintedShapes.{line_words-pairs}
 use Rattle.proof_text.specs.LineLengths.{inequalities-length}
 use Rattle.proof_text.specs.Printable.{IsMultiplier, IsPrintableLine}
-use Rattle.proof_text.specs.Spelling.{in_words, line_words, cut_word, use_word}
+use Rattle.proof_text.specs.Spelling.{further, in_words, line_words, cut_word, use_word}
 use Rattle.tree_checker.specs.Lines.{SpellsLineOn, AreWordsOf}
 use Rattle.tree_checker.proofs.WordsOf.{token_free, same_cut, pairs_words}
 
@@ -92,6 +93,40 @@ spelled_words rows path end first text words line e pairs spells = (
   words_same first words (line_words line) pairs.0 (line_words-some line.cut line.items spells.1.some) (pairs_words words pairs.1) (pairs_words (line_words line) (line_words-pairs line)) (sym e ∙ spells.0),
   spells.1,
 )
+
+further_in : (words : List (List ℕ)) → words ≢ [] → further words ≡ 32 ∷ in_words words
+further_in [] some = absurd (some refl)
+further_in (word ∷ words) some = refl
+
+-- a line has a word
+pub words_of-some : (line : List ℕ) → words_of line ≢ []
+words_of-some line e = omega (arith, length-slice_split is_blank line, ap length e)
+
+-- a text with the shape of a line begins with its first word and a blank
+pub shape_behind : (first : ℕ) (text : List ℕ) → HasLineShape (first ∷ []) text → (rest : List ℕ) × (text ≡ first ∷ 32 ∷ rest)
+shape_behind first text shape = (in_words shape.0, shape.1 ∙ ap (λ r. first ∷ r) (further_in shape.0 shape.2.0))
+
+words_back : (words : List (List ℕ)) → words ≢ [] → All IsWord words → words_of (in_words words) ≡ words
+words_back [] some h = absurd (some refl)
+words_back (word ∷ words) some h = words_of-in word words h
+
+module _ (rows : WholeRows) (path : List Slice) (end : Option Inequality) (first : ℕ) (text rest : List ℕ) (line : Line) (e : text ≡ first ∷ 32 ∷ rest) where
+  -- what is behind the first word of a text that spells a line has the words of the line
+  pub words_behind : SpellsLineOn rows path end (first ∷ []) text line → AreWordsOf rows path end (words_of rest) line
+  words_behind spells =
+      let words : List (List ℕ) = line_words line in
+      let some : words ≢ [] = line_words-some line.cut line.items spells.1.some in
+      let whole : first ∷ 32 ∷ rest ≡ first ∷ 32 ∷ in_words words = sym e ∙ spells.0 ∙ ap (λ r. first ∷ r) (further_in words some) in
+      let behind : rest ≡ in_words words = cc in
+      (ap words_of behind ∙ words_back words some (pairs_words words (line_words-pairs line)), spells.1)
+
+  -- and back
+  pub spelled_behind : AreWordsOf rows path end (words_of rest) line → SpellsLineOn rows path end (first ∷ []) text line
+  spelled_behind are =
+      let words : List (List ℕ) = line_words line in
+      let some : words ≢ [] = line_words-some line.cut line.items are.1.some in
+      let behind : rest ≡ in_words words = sym (in_words-of rest) ∙ ap in_words are.0 in
+      (e ∙ ap (λ r. first ∷ 32 ∷ r) behind ∙ ap (λ r. first ∷ r) (sym (further_in words some)), are.1)
 
 -- ---- the inequalities of a path and an end have small numbers
 

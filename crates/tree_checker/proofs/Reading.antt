@@ -1,10 +1,12 @@
 -- A line of multipliers, read word by word.
-use Rattle.std.proofs.Common.{◌≡◌, ◌≢◌, ℕ, zero, suc, ◌+◌, ◌*◌, ◌<◌, ◌≤◌, List, [], ◌∷◌, ◌++◌, length, get_or, map, Option, Some, None, IsSome, MatchOption, refl, sym, ap, subst, ◌∙◌, arith, append_assoc, append-nil}
+use Rattle.std.proofs.Common.{◌≡◌, ◌≢◌, ℕ, zero, suc, ◌+◌, ◌*◌, ◌<◌, ◌≤◌, ℤ, List, [], ◌∷◌, ◌++◌, length, get_or, map, Option, Some, None, IsSome, MatchOption, refl, sym, ap, subst, ◌∙◌, arith, append_assoc, append-nil}
 use Rattle.std.specs.List.Sorted.{IsStrictlyIncreasing}
 use Rattle.std.proofs.lemmas.List.Elements.{All-nil, All-cons, All-head, All-tail, All-map}
+use Rattle.proof_tree.specs.Trees.{Closes}
 use Rattle.whole_rows.specs.WholeRows.{WholeRows, IsWithinLimits}
 use Rattle.farkas_rows.specs.declared.line.Use.{Use}
 use Rattle.farkas_rows.specs.declared.line.CutUse.{CutUse}
+use Rattle.farkas_rows.specs.declared.line.Line.{Line}
 use Rattle.farkas_rows.specs.declared.path.Slice.{Slice}
 use Rattle.farkas_rows.specs.Inequalities.{Inequality, inequality_at}
 use Rattle.farkas_rows.specs.Refutes.{line_of}
@@ -12,7 +14,9 @@ use Rattle.proof_text.specs.declared.items.Item.TheVariants as items
 use Rattle.proof_text.specs.Items.{SpellsItem}
 use Rattle.proof_text.specs.Printable.{IsMultiplier, IsPrintableLine}
 use Rattle.proof_text.specs.Spelling.{cut_word, use_word}
-use Rattle.tree_checker.specs.Lines.{AreWordsOf, AreWordsOfUses, BeginsWithCut, IsNextUse}
+use Rattle.tree_checker.specs.declared.verdict.RejectKind.{RejectKind}
+use Rattle.tree_checker.specs.declared.verdict.RejectKind.TheVariants as kinds
+use Rattle.tree_checker.specs.Lines.{SpellsLineOn, SpellsClosing, AreWordsOf, AreWordsOfUses, BeginsWithCut, IsNextUse, IsFaultOfLine, IsFaultOn}
 use Rattle.tree_checker.proofs.LineLaws.{item_same, side_small, times_parts}
 
 -- ---- numbers that rise
@@ -181,3 +185,13 @@ module _ (rows : WholeRows) (path : List Slice) (end : Option Inequality) where
       value = t.1.0;
     },
   )
+
+-- ---- what is said of a line is said of its text
+
+pub told : (rows : WholeRows) (last : Option ℤ) (path : List Slice) (end : Option Inequality) (first : ℕ) (text : List ℕ) (line : Line) (result : Option RejectKind) → SpellsLineOn rows path end (first ∷ []) text line → MatchOption result (Closes rows last path end line) (IsFaultOfLine rows last path end line)
+    → MatchOption result (SpellsClosing rows last path end (first ∷ []) text) (IsFaultOn rows last path end (first ∷ []) text)
+told rows last path end first text line None spells h = (line, spells.0, h)
+told rows last path end first text line (Some kinds.Weight) spells h = (line, spells, h)
+told rows last path end first text line (Some kinds.Cut) spells h = (line, spells, h.0, h.1)
+told rows last path end first text line (Some kinds.Refute) spells h = (line, spells, h.0, h.1, h.2)
+told rows last path end first text line (Some _) spells h = absurd h

@@ -13,7 +13,7 @@ ghost use Rattle.tree_checker.specs.Lines.{SpellsClosing, AreWordsOf, AreWordsOf
 ghost use Rattle.whole_rows.specs.WholeRows.{IsWithinLimits};
 
 use crate::verdict::RejectKind;
-use farkas_rows::{CutUse, End, Slice, Use, Weight, has_side, refutes_parts, weigh_parts};
+use farkas_rows::{CutUse, End, Slice, Use, Weight, comes_to_negative, has_side, weigh_parts};
 use proof_text::{Item, NoMemory, Words, pairs_behind, read_item};
 use std::alloc::Global;
 use whole_rows::DenseRows;
@@ -47,13 +47,26 @@ pub(crate) fn judge_line<'a>(
 {
     let is_enough = 2 * (rows.rows() + rows.columns() + path.len()) + 1 <= items.len();
     prove!(is_enough);
-    let Some(words) = pairs_behind(first, text) else {
+    let Some(rest) = behind(first, text) else {
         return Some(RejectKind::Record);
     };
-    let Some(read) = read_line(rows, path, end, words, items) else {
-        return Some(RejectKind::Number);
+    let Some(read) = read_line(rows, path, end, Words::of(rest), items) else {
+        return match pairs_behind(first, text) {
+            Some(_) => Some(RejectKind::Number),
+            None => Some(RejectKind::Record),
+        };
     };
     fault_of(rows, path, end, last, &read.cut, &items[..read.count])
+}
+
+/// What stands behind a first byte and a blank.
+fn behind(first: u8, text: &[u8]) -> Option<&[u8]>
+    ensures { MatchOption result ((rest : List ℕ) → text.now ≢ first ∷ 32 ∷ rest) (λ rest. text.now ≡ first ∷ 32 ∷ rest.now) }
+{
+    match text {
+        [byte, b' ', rest @ ..] if *byte == first => Some(rest),
+        _ => None,
+    }
 }
 
 /// The first reason why the line of these parts does not close the path and the end.
@@ -76,7 +89,7 @@ fn fault_of<'a>(
     if !may_use_cut(last, cut) {
         return Some(RejectKind::Cut);
     }
-    if !refutes_parts(rows, path, end, cut, items) {
+    if !comes_to_negative(rows, path, end, cut, items) {
         return Some(RejectKind::Refute);
     }
     None
