@@ -1,22 +1,20 @@
 -- What is read of a claim is what it spells.
-use Rattle.std.proofs.Common.{◌≡◌, ◌≢◌, ℕ, ◌+◌, ◌^◌, ◌<◌, ◌≤◌, ℤ, pos, neg_ℤ, List, [], ◌∷◌, ◌++◌, length, take, set, map, All, codes, refl, sym, ap, subst, ◌∙◌, arith}
+use Rattle.std.proofs.Common.{◌≡◌, ◌≢◌, ℕ, ◌+◌, ◌^◌, ◌<◌, ◌≤◌, ℤ, pos, neg_ℤ, List, [], ◌∷◌, ◌++◌, length, take, set, map, All, codes, refl, sym, ap, subst, ◌∙◌, arith, ⊎_elim}
 use Rattle.std.specs.Fmt.{signed_decimal}
 use Rattle.std.proofs.lemmas.Int.{ints}
 use Rattle.std.proofs.lemmas.List.{map-append, append_assoc, take_more_set, length-set}
-use Rattle.std.proofs.lemmas.List.Elements.{All-nil, All-cons, All-head, All-tail, All-push}
+use Rattle.std.proofs.lemmas.List.Elements.{All-nil, All-cons, All-head, All-tail, All-push, All-weaker}
 use Rattle.whole_rows.specs.WholeRows.{WholeRows, IsWithinLimits, Meets}
 use Rattle.proof_tree.specs.Trees.{IsOfSize}
 use Rattle.proof_text.specs.declared.claim.Claim.TheVariants as claims
 use Rattle.proof_text.specs.Spelling.{in_words}
 use Rattle.proof_text.specs.Words.{IsWord}
-use Rattle.proof_text.specs.WordLaws.{same_words}
-use Rattle.proof_text.specs.Shapes.{IsNumberWord}
+use Rattle.proof_text.specs.OneReading.{values_words, same_values, point_words}
+use Rattle.proof_text.specs.Shapes.{IsDigit, IsDigitsWord, IsNumberWord}
 use Rattle.proof_text.specs.Items.{SpellsBetween}
-use Rattle.proof_text.specs.TokenLaws.{signed-same}
 use Rattle.tree_checker.specs.Faults.{SpellsPoint}
 use Rattle.tree_checker.specs.Claims.{AreNumbers}
 use Rattle.tree_checker.specs.Written.{claim_printable}
-use Rattle.tree_checker.proofs.WordsOf.{number_words, signed_words}
 
 abbrev IsSmall : ℤ → Type 0
 IsSmall z = IsOfSize (2 ^ 96) z
@@ -58,39 +56,29 @@ more whole old rest word point filled number part left room spells =
       sized = subst (All IsSmall) (sym front) (All-push IsSmall (take filled point) number part.sized (spells.1, spells.2));
     }
 
--- numbers have one spelling
-pub same_numbers : (x y : List ℤ) → All IsSmall x → All IsSmall y → map signed_decimal x ≡ map signed_decimal y → x ≡ y
-same_numbers [] [] h k e = refl
-same_numbers [] (b ∷ y) h k e = absurd cc
-same_numbers (a ∷ x) [] h k e = absurd cc
-same_numbers (a ∷ x) (b ∷ y) h k e =
-    let first : signed_decimal a ≡ signed_decimal b = cc in
-    let later : map signed_decimal x ≡ map signed_decimal y = cc in
-    let one = All-head IsSmall a x h in
-    let two = All-head IsSmall b y k in
-    let same : a ≡ b = signed-same a b (omega (arith, ints, one), omega (arith, ints, one)) (omega (arith, ints, two), omega (arith, ints, two)) first in
-    let others = same_numbers x y (All-tail IsSmall a x h) (All-tail IsSmall b y k) later in
-    cc
+-- ---- words of digits
 
-pub optimal : IsWord (codes "OPTIMAL")
-optimal =
-    let no = λ (byte : ℕ) (rest : List ℕ). All-cons (λ other. other ≢ 32) byte rest in
-    no 79 (80 ∷ 84 ∷ 73 ∷ 77 ∷ 65 ∷ 76 ∷ []) (λ e. omega arith)
-    (no 80 (84 ∷ 73 ∷ 77 ∷ 65 ∷ 76 ∷ []) (λ e. omega arith)
-    (no 84 (73 ∷ 77 ∷ 65 ∷ 76 ∷ []) (λ e. omega arith)
-    (no 73 (77 ∷ 65 ∷ 76 ∷ []) (λ e. omega arith)
-    (no 77 (65 ∷ 76 ∷ []) (λ e. omega arith)
-    (no 65 (76 ∷ []) (λ e. omega arith)
-    (no 76 [] (λ e. omega arith) (All-nil (λ other. other ≢ 32))))))))
+digits_word : (word : List ℕ) → IsDigitsWord word → IsWord word
+digits_word [] h = absurd h
+digits_word (first ∷ digits) h = All-cons (λ byte. byte ≢ 32) first digits (λ e. omega (arith, h.0, e)) (All-weaker IsDigit (λ byte. byte ≢ 32) (λ byte d e. omega (arith, d.0, e)) digits h.2)
+
+number_word : (word : List ℕ) → IsNumberWord word → IsWord word
+number_word word h = ⊎_elim
+    (λ (none : word ≡ 48 ∷ []). subst IsWord (sym none) (All-cons (λ byte. byte ≢ 32) 48 [] (λ e. omega arith) (All-nil (λ byte. byte ≢ 32))))
+    (λ h. ⊎_elim (digits_word word) (λ (digits, spelled, is). subst IsWord (sym spelled) (All-cons (λ byte. byte ≢ 32) 45 digits (λ e. omega arith) (digits_word digits is))) h)
+    h
+
+number_words : (words : List (List ℕ)) → All IsNumberWord words → All IsWord words
+number_words words h = All-weaker IsNumberWord IsWord number_word words h
+
+-- ---- the point of a line
 
 module _ (rows : WholeRows) (limits : IsWithinLimits rows) (text : List ℕ) (words : List (List ℕ)) (spelled : text ≡ in_words (codes "OPTIMAL" ∷ words)) (are : All IsNumberWord words) where
   -- a point with this line has these words
   of_point : (x : List ℤ) → SpellsPoint text x → Meets rows x → (length x ≡ length rows.box) × AreNumbers words x
   of_point x spells meets =
       let printable = claim_printable rows (claims.Optimal x) limits meets in
-      let same : codes "OPTIMAL" ∷ words ≡ codes "OPTIMAL" ∷ map signed_decimal x =
-      same_words (codes "OPTIMAL") (codes "OPTIMAL") words (map signed_decimal x) (All-cons IsWord (codes "OPTIMAL") words optimal (number_words words are)) (All-cons IsWord (codes "OPTIMAL") (map signed_decimal x) optimal (signed_words x)) (sym spelled ∙ spells) in
-      let words_same : words ≡ map signed_decimal x = cc in
+      let words_same : words ≡ map signed_decimal x = point_words words (map signed_decimal x) (number_words words are) (values_words x printable.1) (sym spelled ∙ spells) in
       (printable.0, (words_same, printable.1))
 
   pub no_numbers : (columns : ℕ) → columns ≡ length rows.box → ((x : List ℤ) → length x ≡ columns → AreNumbers words x → ⊥) → (x : List ℤ) → SpellsPoint text x → Meets rows x → ⊥
@@ -99,4 +87,4 @@ module _ (rows : WholeRows) (limits : IsWithinLimits rows) (text : List ℕ) (wo
   pub no_point : (point : List ℤ) → AreNumbers words point → (Meets rows point → ⊥) → (x : List ℤ) → SpellsPoint text x → Meets rows x → ⊥
   no_point point numbers none x spells meets =
       let of = of_point x spells meets in
-      none (subst (Meets rows) (same_numbers x point of.1.1 numbers.1 (sym of.1.0 ∙ numbers.0)) meets)
+      none (subst (Meets rows) (same_values x point of.1.1 numbers.1 (sym of.1.0 ∙ numbers.0)) meets)

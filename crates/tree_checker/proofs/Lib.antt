@@ -8,7 +8,6 @@ pub mod Completes
 pub mod Walks
 pub mod Texts
 pub mod StackLaws
-pub mod WordsOf
 pub mod ClaimLaws
 pub mod OpeningLaws
 pub mod NodeLaws

@@ -15,9 +15,10 @@ use Rattle.proof_text.specs.declared.claim.Claim.{Claim}
 use Rattle.proof_text.specs.declared.claim.Claim.TheVariants as claims
 use Rattle.proof_text.specs.Spelling.{pair, form_words, mark_word, claim_line}
 use Rattle.proof_text.specs.Shapes.{IsNumberWord, HasLineShape, HasSplitShape}
-use Rattle.proof_text.specs.Words.{IsWord}
-use Rattle.proof_text.specs.WordLaws.{same_words}
-use Rattle.proof_text.specs.TokenLaws.{signed-same, signed-number_word}
+use Rattle.proof_text.specs.TokenLaws.{signed-number_word}
+use Rattle.proof_text.specs.OneLine.{one_line}
+use Rattle.proof_text.specs.OneSplit.{value_of_size, IsSmallSplit, same_split}
+use Rattle.proof_text.specs.OneReading.{same_claim}
 use Rattle.proof_text.specs.PrintedShapes.{spelled_line-shape, spelled_split-shape}
 use Rattle.tree_checker.specs.declared.verdict.RejectKind.{RejectKind}
 use Rattle.tree_checker.specs.declared.verdict.RejectKind.TheVariants as kinds
@@ -28,76 +29,19 @@ use Rattle.tree_checker.specs.Passes.{opening_line, IsOpening, PassesTo}
 use Rattle.tree_checker.specs.Faults.{IsPrintableOpening, IsTooDeep, IsSplitFault, IsNodeFault, IsFault}
 use Rattle.tree_checker.specs.Written.{line_printable, claim_printable}
 use Rattle.tree_checker.proofs.Completes.{HasRoom, length-path_of}
-use Rattle.tree_checker.proofs.WordsOf.{signed_word, signed_words, same_pair}
-use Rattle.tree_checker.proofs.ClaimLaws.{same_numbers, optimal}
-use Rattle.tree_checker.proofs.OpeningLaws.{first_word, form_words-word, same_mark, letter, mark_is_word, is_zero, words_none, words_some}
-use Rattle.tree_checker.proofs.LineLaws.{line_same}
 use Rattle.tree_checker.proofs.Unbroken.{opening_printable}
-
--- ---- a form has its words alone
-
-abbrev AreSmall : List ℤ → Type 0
-AreSmall form = All (IsOfSize (2 ^ 96)) form
-
--- no word of later columns is one of this column
-early : (column : ℕ) (form : List ℤ) (factor : ℤ) (rest : List (List ℕ)) → column + length form < 256 → AreSmall form → IsOfSize (2 ^ 96) factor → form_words (suc column) form ≡ pair (decimal column) factor ∷ rest → ⊥
-early column form factor rest few h k e =
-    let has = first_word (suc column) form (pair (decimal column) factor) rest e in
-    let same = same_pair column (suc column + has.place) factor (get_or form has.place (pos 0)) (omega (arith, few)) (omega (arith, few, has.within)) k (All-get_or (IsOfSize (2 ^ 96)) form has.place (pos 0) has.within h) has.spelled in
-    omega (arith, same.0)
-
-form_same : (column : ℕ) (form other : List ℤ) → length form ≡ length other → column + length form ≤ 256 → AreSmall form → AreSmall other → form_words column form ≡ form_words column other → form ≡ other
-form_same column [] [] long few h k e = refl
-form_same column [] (b ∷ other) long few h k e = absurd (omega (arith, long))
-form_same column (a ∷ form) [] long few h k e = absurd (omega (arith, long))
-form_same column (a ∷ form) (b ∷ other) long few h k e =
-    let later = form_same (suc column) form other (omega (arith, long)) (omega (arith, few)) (All-tail (IsOfSize (2 ^ 96)) a form h) (All-tail (IsOfSize (2 ^ 96)) b other k) in
-    let small_a : IsOfSize (2 ^ 96) a = All-head (IsOfSize (2 ^ 96)) a form h in
-    let small_b : IsOfSize (2 ^ 96) b = All-head (IsOfSize (2 ^ 96)) b other k in
-    ⊎_elim
-    (λ (p : a ≡ pos 0). ⊎_elim
-    (λ (q : b ≡ pos 0). let rest = later (sym (words_none column a form p) ∙ e ∙ words_none column b other q) in cc)
-    (λ (q : b ≢ pos 0). absurd (early column form b (form_words (suc column) other) (omega (arith, few)) (All-tail (IsOfSize (2 ^ 96)) a form h) small_b (sym (words_none column a form p) ∙ e ∙ words_some column b other q)))
-    (is_zero b))
-    (λ (p : a ≢ pos 0). ⊎_elim
-    (λ (q : b ≡ pos 0). absurd (early column other a (form_words (suc column) form) (omega (arith, few, long)) (All-tail (IsOfSize (2 ^ 96)) b other k) small_a (sym (words_none column b other q) ∙ sym e ∙ words_some column a form p)))
-    (λ (q : b ≢ pos 0).
-    let both : pair (decimal column) a ∷ form_words (suc column) form ≡ pair (decimal column) b ∷ form_words (suc column) other = sym (words_some column a form p) ∙ e ∙ words_some column b other q in
-    let word : pair (decimal column) a ≡ pair (decimal column) b = cc in
-    let words : form_words (suc column) form ≡ form_words (suc column) other = cc in
-    let first = (same_pair column column a b (omega (arith, few)) (omega (arith, few)) small_a small_b word).1 in
-    let rest = later words in
-    cc)
-    (is_zero b))
-    (is_zero a)
 
 -- ---- a text opens one split at most
 
 abbrev opening_with : Mark → List ℤ → ℤ → ℤ → Opening
 opening_with mark form lo count = record { mark = mark; form = form; lo = lo; count = count }
 
-abbrev words_in : Opening → List (List ℕ)
-words_in opening = mark_word opening.mark ∷ signed_decimal opening.lo ∷ signed_decimal opening.count ∷ form_words 0 opening.form
-
-words_in-word : (opening : Opening) → All IsWord (codes "S" ∷ words_in opening)
-words_in-word opening =
-    All-cons IsWord (codes "S") (words_in opening) letter
-    (All-cons IsWord (mark_word opening.mark) (signed_decimal opening.lo ∷ signed_decimal opening.count ∷ form_words 0 opening.form) (mark_is_word opening.mark)
-    (All-cons IsWord (signed_decimal opening.lo) (signed_decimal opening.count ∷ form_words 0 opening.form) (signed_word opening.lo)
-    (All-cons IsWord (signed_decimal opening.count) (form_words 0 opening.form) (signed_word opening.count) (form_words-word 0 opening.form))))
-
-size_97 : (z : ℤ) → IsOfSize (2 ^ 97) z → IsOfSize (2 ^ 126) z
-size_97 z h = (omega (arith, ints, h.0), omega (arith, ints, h.1))
-
-size_98 : (z : ℤ) → (pos 0 ≤ℤ z) × (z ≤ℤ pos (2 ^ 98)) → IsOfSize (2 ^ 126) z
-size_98 z h = (omega (arith, ints, h.0), omega (arith, ints, h.1))
-
-size_96 : (z : ℤ) → IsOfSize (2 ^ 96) z → IsOfSize (2 ^ 126) z
-size_96 z h = (omega (arith, ints, h.0), omega (arith, ints, h.1))
+abbrev AreSmall : List ℤ → Type 0
+AreSmall form = All (IsOfSize (2 ^ 96)) form
 
 number_words : (x : List ℤ) → AreSmall x → All IsNumberWord (map signed_decimal x)
 number_words [] h = All-nil IsNumberWord
-number_words (z ∷ x) h = All-cons IsNumberWord (signed_decimal z) (map signed_decimal x) (signed-number_word z (size_96 z (All-head (IsOfSize (2 ^ 96)) z x h))) (number_words x (All-tail (IsOfSize (2 ^ 96)) z x h))
+number_words (z ∷ x) h = All-cons IsNumberWord (signed_decimal z) (map signed_decimal x) (signed-number_word z (value_of_size z (All-head (IsOfSize (2 ^ 96)) z x h))) (number_words x (All-tail (IsOfSize (2 ^ 96)) z x h))
 
 -- texts that begin with other bytes differ
 begins : (byte other : ℕ) (text front back : List ℕ) → byte ≢ other → text ≡ byte ∷ front → text ≡ other ∷ back → ⊥
@@ -111,29 +55,17 @@ may_use last (Some cut) h = h.0
 module _ (rows : WholeRows) (limits : IsWithinLimits rows) where
   opening_same : (opening other : Opening) → IsPrintableOpening rows opening → IsPrintableOpening rows other → opening_line opening ≡ opening_line other → opening ≡ other
   opening_same opening other h k e =
-      let same : codes "S" ∷ words_in opening ≡ codes "S" ∷ words_in other = same_words (codes "S") (codes "S") (words_in opening) (words_in other) (words_in-word opening) (words_in-word other) e in
-      let marks : mark_word opening.mark ≡ mark_word other.mark = cc in
-      let los : signed_decimal opening.lo ≡ signed_decimal other.lo = cc in
-      let counts : signed_decimal opening.count ≡ signed_decimal other.count = cc in
-      let forms : form_words 0 opening.form ≡ form_words 0 other.form = cc in
-      ap (λ (mark : Mark). opening_with mark opening.form opening.lo opening.count) (same_mark opening.mark other.mark marks)
-      ∙ ap (λ (form : List ℤ). opening_with other.mark form opening.lo opening.count) (form_same 0 opening.form other.form (h.dense ∙ sym k.dense) (omega (arith, h.dense, limits.few_columns)) h.factors k.factors forms)
-      ∙ ap (λ (lo : ℤ). opening_with other.mark other.form lo opening.count) (signed-same opening.lo other.lo (size_97 opening.lo h.lo) (size_97 other.lo k.lo) los)
-      ∙ ap (λ (count : ℤ). opening_with other.mark other.form other.lo count) (signed-same opening.count other.count (size_98 opening.count h.count) (size_98 other.count k.count) counts)
+      let small : (one : Opening) → IsPrintableOpening rows one → IsSmallSplit one.lo one.count one.form = λ one is. record { first = is.lo; slices = is.count; factors = is.factors; narrow = omega (arith, is.dense, limits.few_columns) } in
+      let same = same_split opening.mark other.mark opening.lo other.lo opening.count other.count opening.form other.form (h.dense ∙ sym k.dense) (small opening h) (small other k) e in
+      ap (λ (mark : Mark). opening_with mark opening.form opening.lo opening.count) same.0
+      ∙ ap (λ (form : List ℤ). opening_with other.mark form opening.lo opening.count) same.3
+      ∙ ap (λ (lo : ℤ). opening_with other.mark other.form lo opening.count) same.1
+      ∙ ap (λ (count : ℤ). opening_with other.mark other.form other.lo count) same.2
 
   -- ---- a text claims one thing at most
 
   claim_same : (claim other : Claim) → IsClaim rows claim → IsClaim rows other → claim_line claim ≡ claim_line other → claim ≡ other
-  claim_same claims.Infeasible claims.Infeasible h k e = refl
-  claim_same claims.Infeasible (claims.Optimal y) h k e = absurd (begins 73 79 (claim_line claims.Infeasible) _ _ (λ d. omega (arith, d)) refl e)
-  claim_same (claims.Optimal x) claims.Infeasible h k e = absurd (begins 79 73 (claim_line (claims.Optimal x)) _ _ (λ d. omega (arith, d)) refl e)
-  claim_same (claims.Optimal x) (claims.Optimal y) h k e =
-      let same : codes "OPTIMAL" ∷ map signed_decimal x ≡ codes "OPTIMAL" ∷ map signed_decimal y = same_words (codes "OPTIMAL") (codes "OPTIMAL") (map signed_decimal x) (map signed_decimal y) (All-cons IsWord (codes "OPTIMAL") (map signed_decimal x) optimal (signed_words x)) (All-cons IsWord (codes "OPTIMAL") (map signed_decimal y) optimal (signed_words y)) e in
-      let numbers : map signed_decimal x ≡ map signed_decimal y = cc in
-      ap claims.Optimal (same_numbers x y (claim_printable rows (claims.Optimal x) limits h).1 (claim_printable rows (claims.Optimal y) limits k).1 numbers)
-  claim_same claims.Open other h k e = absurd h
-  claim_same claims.Infeasible claims.Open h k e = absurd k
-  claim_same (claims.Optimal x) claims.Open h k e = absurd k
+  claim_same claim other h k e = same_claim rows claim other (claim_printable rows claim limits h) (claim_printable rows other limits k) e
 
   -- ---- a line passes to one place at most
 
@@ -154,7 +86,7 @@ module _ (rows : WholeRows) (limits : IsWithinLimits rows) where
 
   module _ (last : Option ℤ) (path : List Slice) (end : Option Inequality) (short : length path ≤ 2 * length rows.box) (first : ℕ) (text : List ℕ) where
     same_line : (line other : Line) → SpellsLineOn rows path end (first ∷ []) text line → SpellsLineOn rows path end (first ∷ []) text other → line ≡ other
-    same_line line other s t = line_same rows path end limits short first text line other s t
+    same_line line other s t = one_line rows path end first text line other limits.few_rows limits.few_columns (omega (arith, short, limits.few_columns)) s.1 t.1 s.0 t.0
 
     -- that closes has no fault
     closing_right : (kind : RejectKind) → SpellsClosing rows last path end (first ∷ []) text → IsFaultOn rows last path end (first ∷ []) text kind → ⊥

@@ -15,7 +15,9 @@ use Rattle.proof_text.specs.declared.shapes.SplitWords.{SplitWords}
 use Rattle.proof_text.specs.Spelling.{in_words, pair, form_words, mark_word}
 use Rattle.proof_text.specs.Shapes.{IsMarkWord, HasSplitShape}
 use Rattle.proof_text.specs.Words.{IsWord}
-use Rattle.proof_text.specs.WordLaws.{same_words}
+use Rattle.proof_text.specs.PairLaws.{token_word, pairs_words, words_behind}
+use Rattle.proof_text.specs.PrintedShapes.{signed-is_token, form_words-pairs, mark-token}
+use Rattle.proof_text.specs.OneSplit.{form_words-zero, form_words-some, zero_or_some, same_factor_word}
 use Rattle.proof_text.specs.Lent.{AreSplitWords}
 use Rattle.proof_text.specs.Items.{SpellsFactor}
 use Rattle.whole_rows.specs.WholeRows.{WholeRows, span}
@@ -24,7 +26,6 @@ use Rattle.tree_checker.specs.Stages.{OpenSplit, Opening}
 use Rattle.tree_checker.specs.Faults.{SpellsOpening, IsTooDeep}
 use Rattle.tree_checker.specs.Passes.{opening_line}
 use Rattle.tree_checker.specs.Openings.{AreFormWords, SpellsRange, opening_of, Opens}
-use Rattle.tree_checker.proofs.WordsOf.{token_word, pairs_words, signed_word, decimal_word, same_pair}
 
 abbrev pub AreZero : List ℤ → Type 0
 AreZero form = All (λ factor. factor ≡ pos 0) form
@@ -34,37 +35,10 @@ IsSmall z = IsOfSize (2 ^ 96) z
 
 -- ---- the words of a form
 
-module _ (column : ℕ) (factor : ℤ) (form : List ℤ) where
-  -- a factor 0 has no word
-  pub words_none : factor ≡ pos 0 → form_words column (factor ∷ form) ≡ form_words (suc column) form
-  words_none e = ap (λ b. if b then form_words (suc column) form else pair (decimal column) factor ∷ form_words (suc column) form) ((Decides-int_eq factor (pos 0)).1 e)
-
-  -- another one has
-  pub words_some : factor ≢ pos 0 → form_words column (factor ∷ form) ≡ pair (decimal column) factor ∷ form_words (suc column) form
-  words_some other = ap (λ b. if b then form_words (suc column) form else pair (decimal column) factor ∷ form_words (suc column) form) (by (int_eq factor (pos 0)) refl)
-    where
-      by : (b : Bool) → int_eq factor (pos 0) ≡ b → b ≡ false
-      by true e = absurd (other ((Decides-int_eq factor (pos 0)).0 e))
-      by false e = refl
-
 -- no word is left of a form that is all 0
 pub words_zero : (column : ℕ) (form : List ℤ) → AreZero form → form_words column form ≡ []
 words_zero column [] h = refl
-words_zero column (factor ∷ form) h = words_none column factor form (All-head (λ f. f ≡ pos 0) factor form h) ∙ words_zero (suc column) form (All-tail (λ f. f ≡ pos 0) factor form h)
-
-pub is_zero : (z : ℤ) → (z ≡ pos 0) ⊎ (z ≢ pos 0)
-is_zero z = by (int_eq z (pos 0)) refl
-  where
-    by : (b : Bool) → int_eq z (pos 0) ≡ b → (z ≡ pos 0) ⊎ (z ≢ pos 0)
-    by true e = inl ((Decides-int_eq z (pos 0)).0 e)
-    by false e = inr (λ same. let t : int_eq z (pos 0) ≡ true = (Decides-int_eq z (pos 0)).1 same in absurd cc)
-
-pub form_words-word : (column : ℕ) (form : List ℤ) → All IsWord (form_words column form)
-form_words-word column [] = All-nil IsWord
-form_words-word column (factor ∷ form) = ⊎_elim
-    (λ (e : factor ≡ pos 0). subst (All IsWord) (sym (words_none column factor form e)) (form_words-word (suc column) form))
-    (λ (other : factor ≢ pos 0). subst (All IsWord) (sym (words_some column factor form other)) (All-cons IsWord (pair (decimal column) factor) (form_words (suc column) form) (decimal_word column factor) (form_words-word (suc column) form)))
-    (is_zero factor)
+words_zero column (factor ∷ form) h = form_words-zero column factor form (All-head (λ f. f ≡ pos 0) factor form h) ∙ words_zero (suc column) form (All-tail (λ f. f ≡ pos 0) factor form h)
 
 -- ---- one factor more
 
@@ -75,12 +49,12 @@ later_on column first form written place factor later =
     let at : suc column + place ≡ column + suc place = omega arith in
     let more : form_words (suc column) written ≡ form_words (suc column) form ++ pair (decimal (column + suc place)) factor ∷ [] = later ∙ ap (λ n. form_words (suc column) form ++ pair (decimal n) factor ∷ []) at in
     ⊎_elim
-    (λ (e : first ≡ pos 0). words_none column first written e ∙ more ∙ ap (λ front. front ++ pair (decimal (column + suc place)) factor ∷ []) (sym (words_none column first form e)))
+    (λ (e : first ≡ pos 0). form_words-zero column first written e ∙ more ∙ ap (λ front. front ++ pair (decimal (column + suc place)) factor ∷ []) (sym (form_words-zero column first form e)))
     (λ (other : first ≢ pos 0).
-    words_some column first written other
+    form_words-some column first written other
     ∙ ap (λ rest. pair (decimal column) first ∷ rest) more
-    ∙ ap (λ front. front ++ pair (decimal (column + suc place)) factor ∷ []) (sym (words_some column first form other)))
-    (is_zero first)
+    ∙ ap (λ front. front ++ pair (decimal (column + suc place)) factor ∷ []) (sym (form_words-some column first form other)))
+    (zero_or_some first)
 
 -- a factor is put where the form is 0 from there on
 put : (column : ℕ) (form : List ℤ) (next place : ℕ) (factor : ℤ) → factor ≢ pos 0 → next ≤ place → place < length form → AreZero (drop next form)
@@ -89,7 +63,7 @@ put column [] next place factor some from within behind = absurd (omega (arith, 
 put column (first ∷ form) zero zero factor some from within behind =
     let at : column ≡ column + 0 = omega arith in
     let none : form_words column (first ∷ form) ≡ [] = words_zero column (first ∷ form) behind in
-    words_some column factor form some
+    form_words-some column factor form some
     ∙ ap (λ rest. pair (decimal column) factor ∷ rest) (words_zero (suc column) form (All-tail (λ f. f ≡ pos 0) first form behind))
     ∙ ap (λ n. pair (decimal n) factor ∷ []) at
     ∙ ap (λ front. front ++ pair (decimal (column + 0)) factor ∷ []) (sym none)
@@ -125,9 +99,9 @@ first_later column factor form word rest has =
 pub first_word : (column : ℕ) (form : List ℤ) (word : List ℕ) (rest : List (List ℕ)) → form_words column form ≡ word ∷ rest → HasFirst column form word rest
 first_word column [] word rest e = absurd cc
 first_word column (factor ∷ form) word rest e = ⊎_elim
-    (λ (none : factor ≡ pos 0). first_later column factor form word rest (first_word (suc column) form word rest (sym (words_none column factor form none) ∙ e)))
+    (λ (none : factor ≡ pos 0). first_later column factor form word rest (first_word (suc column) form word rest (sym (form_words-zero column factor form none) ∙ e)))
     (λ (other : factor ≢ pos 0).
-    let whole : pair (decimal column) factor ∷ form_words (suc column) form ≡ word ∷ rest = sym (words_some column factor form other) ∙ e in
+    let whole : pair (decimal column) factor ∷ form_words (suc column) form ≡ word ∷ rest = sym (form_words-some column factor form other) ∙ e in
     let at : column ≡ column + 0 = omega arith in
     record {
       place = 0;
@@ -136,7 +110,7 @@ first_word column (factor ∷ form) word rest e = ⊎_elim
       some = other;
       others = let later : form_words (suc column) form ≡ rest = cc in ap (λ n. form_words (suc n) form) (sym at) ∙ later;
     })
-    (is_zero factor)
+    (zero_or_some factor)
 
 -- ---- the words that are read of a form
 
@@ -201,7 +175,7 @@ module _ (columns : ℕ) (few : columns ≤ 256) (whole old rest : List (List �
     only = λ other long are.
         let first = from other long are in
         let of = of_first other long are first in
-        let same = same_pair factor.column (next + first.place) factor.factor (get_or (drop next other) first.place (pos 0)) spells.column of.column spells.size of.size (sym spells.spelled ∙ of.spelled) in
+        let same = same_factor_word factor.column (next + first.place) factor.factor (get_or (drop next other) first.place (pos 0)) (omega (arith, spells.column)) (omega (arith, of.column)) spells.size of.size (sym spells.spelled ∙ of.spelled) in
         let place : suc (next + first.place) ≡ factor.column + 1 = omega (arith, same.0) in
         let drops : drop (suc first.place) (drop next other) ≡ drop (factor.column + 1) other = drop-drop (suc first.place) next other ∙ ap (λ n. drop n other) (omega (arith, same.0)) in
         sym (ap (λ n. form_words n (drop (factor.column + 1) other)) place) ∙ sym (ap (form_words (suc (next + first.place))) drops) ∙ first.others;
@@ -223,14 +197,7 @@ all_read columns whole old form next part none = (part.read ∙ ap (λ words. fo
 not_above : (m n : ℕ) → (n < m → ⊥) → m ≤ n
 not_above m n h = omega (arith, h)
 
-pub mark_is_word : (mark : Mark) → IsWord (mark_word mark)
-mark_is_word Thin = All-cons (λ byte. byte ≢ 32) 84 [] (λ e. omega arith) (All-nil (λ byte. byte ≢ 32))
-mark_is_word Plain = All-cons (λ byte. byte ≢ 32) 80 [] (λ e. omega arith) (All-nil (λ byte. byte ≢ 32))
-
-pub letter : IsWord (codes "S")
-letter = All-cons (λ byte. byte ≢ 32) 83 [] (λ e. omega arith) (All-nil (λ byte. byte ≢ 32))
-
-pub same_mark : (mark other : Mark) → mark_word mark ≡ mark_word other → mark ≡ other
+same_mark : (mark other : Mark) → mark_word mark ≡ mark_word other → mark ≡ other
 same_mark Thin Thin e = refl
 same_mark Thin Plain e = absurd (omega (arith, ap (λ word. get_or word 0 0) e))
 same_mark Plain Thin e = absurd (omega (arith, ap (λ word. get_or word 0 0) e))
@@ -265,17 +232,15 @@ module _ (rows : WholeRows) (text : List ℕ) (words : SplitWords) (are : AreSpl
   has_words opening e =
       let read : List (List ℕ) = mark_word words.mark ∷ words.lo.now ∷ words.count.now ∷ words.form in
       let made : List (List ℕ) = mark_word opening.mark ∷ signed_decimal opening.lo ∷ signed_decimal opening.count ∷ form_words 0 opening.form in
-      let read_words : All IsWord (codes "S" ∷ read) =
-      All-cons IsWord (codes "S") read letter
-      (All-cons IsWord (mark_word words.mark) (words.lo.now ∷ words.count.now ∷ words.form) (mark_is_word words.mark)
+      let read_words : All IsWord read =
+      All-cons IsWord (mark_word words.mark) (words.lo.now ∷ words.count.now ∷ words.form) (token_word (mark_word words.mark) (mark-token words.mark))
       (All-cons IsWord words.lo.now (words.count.now ∷ words.form) (token_word words.lo.now are.lo)
-      (All-cons IsWord words.count.now words.form (token_word words.count.now are.count) (pairs_words words.form are.pairs.1)))) in
-      let made_words : All IsWord (codes "S" ∷ made) =
-      All-cons IsWord (codes "S") made letter
-      (All-cons IsWord (mark_word opening.mark) (signed_decimal opening.lo ∷ signed_decimal opening.count ∷ form_words 0 opening.form) (mark_is_word opening.mark)
-      (All-cons IsWord (signed_decimal opening.lo) (signed_decimal opening.count ∷ form_words 0 opening.form) (signed_word opening.lo)
-      (All-cons IsWord (signed_decimal opening.count) (form_words 0 opening.form) (signed_word opening.count) (form_words-word 0 opening.form)))) in
-      let same : codes "S" ∷ read ≡ codes "S" ∷ made = same_words (codes "S") (codes "S") read made read_words made_words (sym are.spelled ∙ e) in
+      (All-cons IsWord words.count.now words.form (token_word words.count.now are.count) (pairs_words words.form are.pairs.1))) in
+      let made_words : All IsWord made =
+      All-cons IsWord (mark_word opening.mark) (signed_decimal opening.lo ∷ signed_decimal opening.count ∷ form_words 0 opening.form) (token_word (mark_word opening.mark) (mark-token opening.mark))
+      (All-cons IsWord (signed_decimal opening.lo) (signed_decimal opening.count ∷ form_words 0 opening.form) (token_word (signed_decimal opening.lo) (signed-is_token opening.lo))
+      (All-cons IsWord (signed_decimal opening.count) (form_words 0 opening.form) (token_word (signed_decimal opening.count) (signed-is_token opening.count)) (pairs_words (form_words 0 opening.form) (form_words-pairs 0 opening.form)))) in
+      let same : read ≡ made = words_behind 83 read made read_words made_words (sym are.spelled ∙ e) in
       let marks : mark_word words.mark ≡ mark_word opening.mark = cc in
       record { mark = same_mark words.mark opening.mark marks; lo = cc; count = cc; form = cc }
 
