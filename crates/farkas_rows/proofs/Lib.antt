@@ -1,4 +1,3 @@
-pub mod WorkedLines
 pub mod SideLemmas
 pub mod NumberLemmas
 pub mod LineLemmas

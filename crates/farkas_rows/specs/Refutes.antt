@@ -19,6 +19,10 @@ cut_times cut = option_to_list (option_map (λ (cut : CutUse). cut.times) cut)
 abbrev pub cut_inequalities : WholeRows → Option CutUse → List Inequality
 cut_inequalities rows cut = option_to_list (option_map (λ (cut : CutUse). cut_inequality rows cut.value) cut)
 
+-- the line of these parts
+abbrev pub line_of : Option CutUse → List Use → Line
+line_of cut items = record { cut = cut; items = items }
+
 -- the multipliers of a line: that of the cut first
 abbrev pub multipliers : Line → List ℤ
 multipliers line = cut_times line.cut ++ map (λ (item : Use). item.times) line.items

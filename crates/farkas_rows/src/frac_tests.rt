@@ -1,74 +1,44 @@
-//! Lines from fractions, with multiples found by hand.
-ghost use Rattle.std.specs.Prelude.{length, IfSome};
-ghost use Rattle.farkas_rows.specs.Ends.{inequality_of};
-ghost use Rattle.farkas_rows.specs.Refutes.{HasForms, IsDense};
+//! A line from fractions, with multiples found by hand.
+ghost use Rattle.std.specs.Prelude.{◌≢◌, pos};
+ghost use Rattle.exact_math.specs.Rational.{whole, ◌<ℚ◌};
 
-use crate::node::side_at;
-use crate::{End, FracUse, Line, LineStop, OriginalTimes, Path, Use, from_fracs};
+use crate::{End, FracUse, OriginalTimes, Path, Use, from_fracs};
 use frac128::Frac;
-use std::alloc::Global;
 use std::process::Abort;
 use std::test::Fail;
 use whole_rows::{Bounds, DenseRows};
 
-/// The line of one item or more that name inequalities and are above 0.
-fn line_of<'a>(
-    alloc: Global,
-    rows: &'a DenseRows,
-    path: &'a Path,
-    end: &'a End<'a>,
-    items: &[FracUse],
-) -> Result<Option<Line>, LineStop>
-    requires path { HasForms (length rows.now.box) path.now }
-    requires end { IfSome (inequality_of end.now) (IsDense (length rows.now.box)) }
+#[tactic(auto, using(exact_math::specs::RationalTests::rational_tests))]
+fn positive(rt: &impl Abort, num: i128, den: i128) -> Frac
+    requires { den ≢ pos 0 }
+    ensures { whole (pos 0) <ℚ result }
 {
-    if items.is_empty() {
-        return Ok(None);
-    }
-    let mut times = OriginalTimes::new(alloc);
-    for item in items {
-        if item.times.num() <= 0 || side_at(rows, path, end, item.index).is_none() {
-            return Ok(None);
-        }
-        times.push(*item)?;
-    }
-    Ok(Some(from_fracs(alloc, rows, path, end, &None, &times)?))
-}
-
-fn fraction(rt: &impl Abort, terms: (i128, i128)) -> Frac {
-    assert_ne!(rt; terms.1, 0);
-    Frac::new(terms.0, terms.1).ok().expect(rt, "a fraction")
+    let number = Frac::new(num, den).ok().expect(rt, "a fraction");
+    assert!(rt; Frac::whole(0) < number);
+    number
 }
 
 #[test]
-fn least_whole_lines(rt: HostRuntime) -> Result<(), Fail> {
+fn least_whole_line(rt: HostRuntime) -> Result<(), Fail> {
     let alloc = rt.alloc();
     let mut rows = DenseRows::new(alloc, vec![in alloc; Bounds { low: -5, high: 5 }]?)?;
     rows.push_row(&[1], None, Some(0))?;
     rows.push_row(&[-1], None, Some(-1))?;
+    let half = positive(&rt, 1, 2);
+    let mut times = OriginalTimes::new(alloc);
+    times.push(FracUse {
+        index: 0,
+        times: half,
+    })?;
+    times.push(FracUse {
+        index: 2,
+        times: half,
+    })?;
     let path = Path::new(alloc);
-    let cases = [
-        ((1, 2), (1, 2), (1, 1)),
-        ((2, 3), (4, 9), (3, 2)),
-        ((6, 1), (10, 1), (3, 5)),
-    ];
-    for (first, second, (a, b)) in cases {
-        let items = [
-            FracUse {
-                index: 0,
-                times: fraction(&rt, first),
-            },
-            FracUse {
-                index: 2,
-                times: fraction(&rt, second),
-            },
-        ];
-        let line = line_of(alloc, &rows, &path, &End::Absent, &items)?.expect(&rt, "a line");
-        assert_eq!(rt; line.cut, None);
-        assert_eq!(rt;
-            line.items.items(),
-            [Use { index: 0, times: a }, Use { index: 2, times: b }].as_slice()
-        );
-    }
+    let line = from_fracs(alloc, &rows, &path, &End::Absent, &None, &times)?;
+    assert_eq!(rt;
+        line.items.items(),
+        [Use { index: 0, times: 1 }, Use { index: 2, times: 1 }].as_slice()
+    );
     Ok(())
 }

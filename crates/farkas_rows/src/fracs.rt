@@ -1,8 +1,7 @@
 //! Combinations with fractions as multipliers, and the line with the least whole ones.
-ghost use Rattle.std.specs.Prelude.{◌≡◌, ℕ, ◌^◌, ◌<◌, ℤ, pos, ◌≤ℤ◌, ◌<ℤ◌, List, [], length, map, All, IfOk, IsErrOf, IfSome, IfNone, IsSome, OnSome, SomeIff, ◌≢◌, nat_abs};
+ghost use Rattle.std.specs.Prelude.{◌≡◌, ℕ, ◌^◌, ◌<◌, ℤ, pos, ◌≤ℤ◌, ◌<ℤ◌, List, [], length, map, All, IfOk, IsErrOf, IfSome, IfNone, IsSome, OnSome, ◌≢◌, nat_abs};
 ghost use Rattle.std.specs.List.{AllZip};
 ghost use Rattle.std.specs.Int.{◌∣◌};
-ghost use Rattle.exact_math.specs.Gcd.{lcm as lcm_of};
 ghost use Rattle.exact_math.specs.Rational.{whole, ◌/ℚ◌, ◌<ℚ◌};
 ghost use Rattle.frac128.specs.Range.{InRange};
 ghost use Rattle.farkas_rows.specs.Ends.{inequality_of};
@@ -15,7 +14,7 @@ ghost use Rattle.farkas_rows.specs.declared.line.Line.{Line};
 use crate::judge::weigh;
 use crate::line::{CutUse, End, Line, Use, Uses, Weight};
 use crate::path::Path;
-use frac128::{Frac, gcd};
+use frac128::{Frac, lcm};
 use sequence::{NoMemory, Sequence};
 use std::alloc::Global;
 use std::error::Error;
@@ -170,16 +169,6 @@ fn whole_items(
         })?;
     }
     Ok(uses)
-}
-
-/// The least common multiple; none where it is above 2^127 - 1.
-fn lcm(a: i128, b: i128) -> Option<i128>
-    requires a_positive { pos 0 <ℤ a }
-    requires b_positive { pos 0 <ℤ b }
-    ensures { SomeIff result (lcm_of (nat_abs a) (nat_abs b) < 2 ^ 127) (pos (lcm_of (nat_abs a) (nat_abs b))) }
-{
-    let common = gcd(a, b);
-    (a / common).checked_mul(b)
 }
 
 /// The least number that the denominators of all multipliers over the first one divide; none where there is no such

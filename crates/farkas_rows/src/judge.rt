@@ -9,12 +9,12 @@ ghost use Rattle.whole_rows.specs.WholeRows.{IsWithinLimits};
 ghost use Rattle.farkas_rows.specs.Ends.{inequality_of};
 ghost use Rattle.farkas_rows.specs.Inequalities.{inequality_at};
 ghost use Rattle.farkas_rows.specs.Judgement.{IsWeight};
-ghost use Rattle.farkas_rows.specs.Refutes.{HasForms, IsDense, IsMultiplier, ComesToNegative, Refutes, cut_times, cut_inequalities, multipliers, used, weights, line_weight};
+ghost use Rattle.farkas_rows.specs.Refutes.{HasForms, IsDense, IsMultiplier, ComesToNegative, Refutes, cut_times, cut_inequalities, multipliers, used, weights, line_of, line_weight};
 ghost use Rattle.farkas_rows.specs.Sides.{ComesTo};
 
 use crate::line::{CutUse, End, Line, Use, Weight};
-use crate::node::{cut_side, named_side, side_at};
-use crate::path::Path;
+use crate::node::{cut_side, has_side, named_side};
+use crate::path::{Path, Slice};
 use crate::side::HEAVIEST;
 use exact_vectors::add_product;
 use whole_rows::DenseRows;
@@ -32,8 +32,24 @@ pub fn weigh<'a>(rows: &'a DenseRows, path: &'a Path, end: &'a End<'a>, line: &L
     requires not_negative { NotNegative (multipliers line.now) }
     ensures { IsWeight (line_weight rows.now path.now (inequality_of end.now) line.now) result }
 {
-    let mut total = cut_weight(rows, &line.cut);
-    let items = line.items.items();
+    weigh_parts(rows, path.items(), end, &line.cut, line.items.items())
+}
+
+/// The weight of the line that is made of these parts, as `weigh` tells it. It takes no memory.
+pub fn weigh_parts<'a>(
+    rows: &'a DenseRows,
+    path: &'a [Slice],
+    end: &'a End<'a>,
+    cut: &Option<CutUse>,
+    items: &[Use],
+) -> Weight
+    requires path { HasForms (length rows.now.box) path.now }
+    requires end { IfSome (inequality_of end.now) (IsDense (length rows.now.box)) }
+    requires there { All (λ item. IsSome (inequality_at rows.now path.now (inequality_of end.now) item.index)) items.now }
+    requires not_negative { NotNegative (multipliers (line_of cut.now items.now)) }
+    ensures { IsWeight (line_weight rows.now path.now (inequality_of end.now) (line_of cut.now items.now)) result }
+{
+    let mut total = cut_weight(rows, cut);
     for item in items {
         let weight = named_side(rows, path, end, item.index).weight();
         total = with_product(total, item.times, weight);
@@ -84,15 +100,30 @@ pub fn refutes<'a>(rows: &'a DenseRows, path: &'a Path, end: &'a End<'a>, line: 
     requires end { IfSome (inequality_of end.now) (IsDense (length rows.now.box)) }
     ensures { IsTrue result ↔ Refutes rows.now path.now (inequality_of end.now) line.now }
 {
-    let items = line.items.items();
-    if !rise(items) || !are_there(rows, path, end, items) || !has_multipliers(line) {
+    refutes_parts(rows, path.items(), end, &line.cut, line.items.items())
+}
+
+/// Whether the line that is made of these parts shows that the node has no point, as `refutes` tells it. It takes no
+/// memory.
+pub fn refutes_parts<'a>(
+    rows: &'a DenseRows,
+    path: &'a [Slice],
+    end: &'a End<'a>,
+    cut: &Option<CutUse>,
+    items: &[Use],
+) -> bool
+    requires path { HasForms (length rows.now.box) path.now }
+    requires end { IfSome (inequality_of end.now) (IsDense (length rows.now.box)) }
+    ensures { IsTrue result ↔ Refutes rows.now path.now (inequality_of end.now) (line_of cut.now items.now) }
+{
+    if !rise(items) || !are_there(rows, path, end, items) || !has_multipliers(cut, items) {
         return false;
     }
-    let Weight::Within(_) = weigh(rows, path, end, line) else {
+    let Weight::Within(_) = weigh_parts(rows, path, end, cut, items) else {
         return false;
     };
     let mut sums = [0; MOST_COLUMNS];
-    comes_to_negative(rows, path, end, line, &mut sums[..rows.columns()])
+    comes_to_negative(rows, path, end, cut, items, &mut sums[..rows.columns()])
 }
 
 /// Whether the numbers rise.
@@ -108,13 +139,13 @@ fn rise(items: &[Use]) -> bool
 }
 
 /// Whether each number names an inequality of the node.
-fn are_there<'a>(rows: &'a DenseRows, path: &'a Path, end: &'a End<'a>, items: &[Use]) -> bool
+fn are_there<'a>(rows: &'a DenseRows, path: &'a [Slice], end: &'a End<'a>, items: &[Use]) -> bool
     requires path { HasForms (length rows.now.box) path.now }
     requires end { IfSome (inequality_of end.now) (IsDense (length rows.now.box)) }
     ensures { IsTrue result ↔ All (λ item. IsSome (inequality_at rows.now path.now (inequality_of end.now) item.index)) items.now }
 {
     for item in items {
-        if side_at(rows, path, end, item.index).is_none() {
+        if !has_side(rows, path, end, item.index) {
             return false;
         }
     }
@@ -122,10 +153,10 @@ fn are_there<'a>(rows: &'a DenseRows, path: &'a Path, end: &'a End<'a>, items: &
 }
 
 /// Whether each multiplier is in range.
-fn has_multipliers(line: &Line) -> bool
-    ensures { IsTrue result ↔ All IsMultiplier (multipliers line.now) }
+fn has_multipliers(cut: &Option<CutUse>, items: &[Use]) -> bool
+    ensures { IsTrue result ↔ All IsMultiplier (multipliers (line_of cut.now items.now)) }
 {
-    is_cut_multiplier(&line.cut) && are_multipliers(line.items.items())
+    is_cut_multiplier(cut) && are_multipliers(items)
 }
 
 /// Whether the multiplier of the cut is in range, where it is used.
@@ -156,22 +187,22 @@ fn is_multiplier(times: i128) -> bool
 /// columns are 0 before.
 fn comes_to_negative<'a>(
     rows: &'a DenseRows,
-    path: &'a Path,
+    path: &'a [Slice],
     end: &'a End<'a>,
-    line: &Line,
+    cut: &Option<CutUse>,
+    items: &[Use],
     sums: &mut [i128],
 ) -> bool
     requires path { HasForms (length rows.now.box) path.now }
     requires end { IfSome (inequality_of end.now) (IsDense (length rows.now.box)) }
-    requires there { All (λ item. IsSome (inequality_at rows.now path.now (inequality_of end.now) item.index)) line.now.items }
-    requires multipliers { All IsMultiplier (multipliers line.now) }
-    requires light { line_weight rows.now path.now (inequality_of end.now) line.now ≤ℤ pos (2 ^ 126) }
+    requires there { All (λ item. IsSome (inequality_at rows.now path.now (inequality_of end.now) item.index)) items.now }
+    requires multipliers { All IsMultiplier (multipliers (line_of cut.now items.now)) }
+    requires light { line_weight rows.now path.now (inequality_of end.now) (line_of cut.now items.now) ≤ℤ pos (2 ^ 126) }
     requires limits { IsWithinLimits rows.now }
     requires cleared { sums.old ≡ zeros integers (length rows.now.box) }
-    ensures { IsTrue result ↔ ComesToNegative (length rows.now.box) (multipliers line.now) (used rows.now path.now (inequality_of end.now) line.now) }
+    ensures { IsTrue result ↔ ComesToNegative (length rows.now.box) (multipliers (line_of cut.now items.now)) (used rows.now path.now (inequality_of end.now) (line_of cut.now items.now)) }
 {
-    let mut limit = add_cut(rows, &line.cut, sums);
-    let items = line.items.items();
+    let mut limit = add_cut(rows, cut, sums);
     for item in items {
         limit += named_side(rows, path, end, item.index).add_to(item.times, sums);
     }

@@ -1,8 +1,6 @@
 //! Lines: combinations of a node's inequalities that show that no point is there.
 #![tactic(auto)]
 
-#[cfg(test)]
-mod frac_tests;
 mod fracs;
 mod judge;
 mod laws;
@@ -12,11 +10,14 @@ mod path;
 mod side;
 
 pub use fracs::{CutFrac, FracUse, LineStop, OriginalTimes, from_fracs};
-pub use judge::{refutes, weigh};
+pub use judge::{refutes, refutes_parts, weigh, weigh_parts};
 pub use laws::refuted_node_has_no_point;
 pub use line::{CutUse, End, Line, Use, Uses, Weight};
+pub use node::has_side;
 pub use path::{Path, Slice};
 pub use sequence::NoMemory;
 
+#[cfg(test)]
+mod frac_tests;
 #[cfg(test)]
 mod tests;

@@ -1,5 +1,5 @@
 //! The inequalities of a node by their numbers.
-ghost use Rattle.std.specs.Prelude.{◌≡◌, ℕ, ◌<◌, length, Option, Some, option_map, unwrap_or, IsSome, IfSome};
+ghost use Rattle.std.specs.Prelude.{◌≡◌, ◌↔◌, ℕ, ◌<◌, length, Option, Some, option_map, unwrap_or, IsTrue, IsSome, IfSome};
 ghost use Rattle.whole_rows.specs.WholeRows.{row_at, bounds_at};
 ghost use Rattle.farkas_rows.specs.Ends.{inequality_of};
 ghost use Rattle.farkas_rows.specs.Inequalities.{at_most, at_least, unit, inequality_at, cut_inequality};
@@ -7,7 +7,7 @@ ghost use Rattle.farkas_rows.specs.Refutes.{HasForms, IsDense, nothing};
 ghost use Rattle.farkas_rows.specs.Sides.{inequality_in, IsSideIn, side_of_row, side_of_form};
 
 use crate::line::End;
-use crate::path::{Path, Slice};
+use crate::path::Slice;
 use crate::side::{Bound, Factors, Side};
 use whole_rows::DenseRows;
 
@@ -15,7 +15,7 @@ use whole_rows::DenseRows;
 /// upper side of each comes first. There is none where a side is absent, or the number is too large.
 pub(crate) fn side_at<'a>(
     rows: &'a DenseRows,
-    path: &'a Path,
+    path: &'a [Slice],
     end: &'a End<'a>,
     number: u32,
 ) -> Option<Side<'a>>
@@ -34,21 +34,29 @@ pub(crate) fn side_at<'a>(
         return Some(column_side(rows, at, is_lower));
     }
     let at = at - rows.columns();
-    let slices = path.items();
-    if at < slices.len() {
-        return Some(slice_side(&slices[at], is_lower));
+    if at < path.len() {
+        return Some(slice_side(&path[at], is_lower));
     }
-    if at == slices.len() && !is_lower {
+    if at == path.len() && !is_lower {
         end_side(end)
     } else {
         None
     }
 }
 
+/// Whether the number names an inequality of the node. It takes no memory.
+pub fn has_side<'a>(rows: &'a DenseRows, path: &'a [Slice], end: &'a End<'a>, number: u32) -> bool
+    requires path { HasForms (length rows.now.box) path.now }
+    requires end { IfSome (inequality_of end.now) (IsDense (length rows.now.box)) }
+    ensures { IsTrue result ↔ IsSome (inequality_at rows.now path.now (inequality_of end.now) number) }
+{
+    side_at(rows, path, end, number).is_some()
+}
+
 /// The inequality of a number that names one.
 pub(crate) fn named_side<'a>(
     rows: &'a DenseRows,
-    path: &'a Path,
+    path: &'a [Slice],
     end: &'a End<'a>,
     number: u32,
 ) -> Side<'a>

@@ -1,6 +1,6 @@
-//! The greatest common divisor.
-ghost use Rattle.std.specs.Prelude.{◌≡◌, ◌^◌, ◌%◌, ◌<◌, pos, nat_abs};
-ghost use Rattle.exact_math.specs.Gcd.{gcd as gcd_of};
+//! The greatest common divisor and the least common multiple.
+ghost use Rattle.std.specs.Prelude.{◌≡◌, ◌^◌, ◌%◌, ◌<◌, ◌<ℤ◌, pos, nat_abs, SomeIff};
+ghost use Rattle.exact_math.specs.Gcd.{gcd as gcd_of, lcm as lcm_of};
 
 // One more than the greatest number of 64 bits.
 const WORD: u128 = 1 << 64;
@@ -12,6 +12,16 @@ pub fn gcd(a: i128, b: i128) -> i128
     ensures { result ≡ pos (gcd_of (nat_abs a) (nat_abs b)) }
 {
     gcd_of_sizes(a.unsigned_abs(), b.unsigned_abs()) as i128
+}
+
+/// The least common multiple of two numbers above 0; none where it is above 2^127 - 1.
+pub fn lcm(a: i128, b: i128) -> Option<i128>
+    requires a_positive { pos 0 <ℤ a }
+    requires b_positive { pos 0 <ℤ b }
+    ensures { SomeIff result (lcm_of (nat_abs a) (nat_abs b) < 2 ^ 127) (pos (lcm_of (nat_abs a) (nat_abs b))) }
+{
+    let common = gcd(a, b);
+    (a / common).checked_mul(b)
 }
 
 pub(crate) fn gcd_of_sizes(a: u128, b: u128) -> u128

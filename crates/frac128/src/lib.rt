@@ -10,7 +10,7 @@ mod frac;
 mod narrow;
 mod order;
 
-pub use euclid::gcd;
+pub use euclid::{gcd, lcm};
 pub use frac::Frac;
 pub use narrow::Wide;
 

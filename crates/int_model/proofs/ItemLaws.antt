@@ -1,6 +1,6 @@
 -- What the factors of items have in common, and that their coefficients have the same in common.
-use Rattle.std.proofs.Common.{◌≡◌, ◌≢◌, of_z, Bool, false, ℕ, zero, suc, ◌+◌, ◌<◌, ◌≤◌, ◌^◌, List, [], ◌∷◌, ◌++◌, length, take, get_or, ℤ, pos, ◌<ℤ◌, nat_abs, refl, sym, ap, ap₂, subst, ◌∙◌, arith}
-use Rattle.std.specs.Prelude.{Result, Ok, IsOk, OkIff}
+use Rattle.std.proofs.Common.{◌≡◌, ◌≢◌, of_z, false, ℕ, zero, suc, ◌+◌, ◌<◌, ◌≤◌, ◌^◌, List, [], ◌∷◌, ◌++◌, length, take, get_or, ℤ, pos, ◌<ℤ◌, nat_abs, refl, sym, ap, ap₂, subst, ◌∙◌, arith}
+use Rattle.std.specs.Prelude.{Result, Ok, IsOk, OkIff, ◌==◌}
 use Rattle.std.specs.Result.{is_ok}
 use Rattle.std.specs.Int.{◌∣◌, w128}
 use Rattle.std.proofs.lemmas.Result.{Ok-from_Ok_iff, OkIff-at_ok}
@@ -17,7 +17,6 @@ use Rattle.exact_math.specs.LcmLaws.{lcm_dvd}
 use Rattle.frac128.specs.Range.{InRange}
 use Rattle.frac128.specs.declared.narrow.Wide.{Wide}
 use Rattle.int_model.specs.declared.model.Item.{Item}
-use Rattle.int_model.specs.declared.scales.RowScale.{RowScale}
 use Rattle.int_model.specs.Scale.{common_denominator, common_numerator, over_or_one, scale}
 use Rattle.int_model.specs.IntegerRows.{coefficients_of, IsDistinctBelow}
 use Rattle.int_model.specs.ItemFactors.{factors_in, row_scale}
@@ -160,7 +159,8 @@ scale_is_answered a den num r q is_den is_num some answered is =
     (OkIff-at_ok r (InRange (ratio den num)) (ratio den num) q answered is).1 ∙ ratio_is_scale a den num is_den is_num some
 
 -- and with it the scale of a row where not all coefficients are 0
-pub row_scale_is : (a : List ℚ) (times : ℚ) → times ≡ scale a → common_numerator a ≢ 0 → record { times = times; zeros = false } ≡ row_scale a
-row_scale_is a times is some =
-    let made : ℚ → Bool → RowScale = λ times zeros. record { times = times; zeros = zeros } in
-    ap₂ made is (sym (ne_eqb (common_numerator a) 0 some))
+pub row_scale_is : (a : List ℚ) (times : ℚ) (denominator numerator : ℤ) → times ≡ scale a → denominator ≡ pos (common_denominator a) → numerator ≡ pos (common_numerator a) → common_numerator a ≢ 0
+    → record { times = times; denominator = denominator; numerator = numerator; zeros = false } ≡ row_scale a
+row_scale_is a times denominator numerator is is_denominator is_numerator some =
+    let none : false ≡ (common_numerator a == 0) = sym (ne_eqb (common_numerator a) 0 some) in
+    cc

@@ -32,7 +32,7 @@ use Rattle.int_model.specs.Large.{multiple, objective_numbers, objective_weight,
 use Rattle.int_model.proofs.ScaleLaws.{not_zero, cancel, scale_pos, scaled-primitive, whole_product, zero_from_dvd, common_denominator_pos}
 use Rattle.int_model.proofs.MultipleLaws.{multiple_is, heavy_from_product, scaled_at}
 use Rattle.int_model.proofs.LargeLaws.{box_long, coefficients_long}
-use Rattle.int_model.proofs.ItemLaws.{same_denominator, same_numerator}
+use Rattle.int_model.proofs.ItemLaws.{same_denominator}
 use Rattle.int_model.proofs.RowLaws.{some_from_numerator, IsScaleOf, products_are_scaled}
 
 -- ---- multiples and whole coefficients
@@ -232,11 +232,6 @@ makes_values model terms is_divisor is_constant is_factor narrow light =
 
 -- ---- the steps by which the terms of a value are found
 
--- the denominator that was found
-pub denominator_found : (model : Model) (denominator : ℤ) → IsDistinctBelow (length model.columns) model.objective → (common_denominator (factors_in model.objective) < 2 ^ 127) × (denominator ≡ pos (common_denominator (factors_in model.objective))) → denominator ≡ pos (common_denominator (objective_of model))
-denominator_found model denominator distinct found =
-    found.1 ∙ ap pos (sym (same_denominator (length model.columns) model.objective distinct))
-
 -- the divisor
 divisor_from : (model : Model) (den denominator : ℤ) → den ≡ pos model.constant.den → denominator ≡ pos (common_denominator (objective_of model)) → lcm (nat_abs den) (nat_abs denominator) ≡ common_denominator (objective_numbers model)
 divisor_from model den denominator is_den is_denominator = ap₂ lcm (ap nat_abs is_den) (ap nat_abs is_denominator)
@@ -260,17 +255,17 @@ constant_not_found model divisor is_divisor leaves =
     large_from_constant model (subst (λ d. ProductInRange (whole d) model.constant → ⊥) is_divisor leaves)
 
 -- the factor
-factor_from : (model : Model) (divisor denominator numerator : ℤ) → IsDistinctBelow (length model.columns) model.objective → divisor ≡ pos (common_denominator (objective_numbers model)) → denominator ≡ pos (common_denominator (objective_of model)) → numerator ≡ pos (common_numerator (factors_in model.objective)) → value_factor (nat_abs divisor) (nat_abs denominator) (nat_abs numerator) ≡ value_factor (common_denominator (objective_numbers model)) (common_denominator (objective_of model)) (common_numerator (objective_of model))
-factor_from model divisor denominator numerator distinct is_divisor is_denominator is_numerator =
-    ap₂ (λ d l. value_factor d l (nat_abs numerator)) (ap nat_abs is_divisor) (ap nat_abs is_denominator) ∙ ap (value_factor (common_denominator (objective_numbers model)) (common_denominator (objective_of model))) (ap nat_abs is_numerator ∙ sym (same_numerator (length model.columns) model.objective distinct))
+factor_from : (model : Model) (divisor denominator numerator : ℤ) → divisor ≡ pos (common_denominator (objective_numbers model)) → denominator ≡ pos (common_denominator (objective_of model)) → numerator ≡ pos (common_numerator (objective_of model)) → value_factor (nat_abs divisor) (nat_abs denominator) (nat_abs numerator) ≡ value_factor (common_denominator (objective_numbers model)) (common_denominator (objective_of model)) (common_numerator (objective_of model))
+factor_from model divisor denominator numerator is_divisor is_denominator is_numerator =
+    ap₂ (λ d l. value_factor d l (nat_abs numerator)) (ap nat_abs is_divisor) (ap nat_abs is_denominator) ∙ ap (value_factor (common_denominator (objective_numbers model)) (common_denominator (objective_of model))) (ap nat_abs is_numerator)
 
-pub factor_found : (model : Model) (divisor denominator numerator factor : ℤ) → IsDistinctBelow (length model.columns) model.objective → divisor ≡ pos (common_denominator (objective_numbers model)) → denominator ≡ pos (common_denominator (objective_of model)) → numerator ≡ pos (common_numerator (factors_in model.objective)) → (value_factor (nat_abs divisor) (nat_abs denominator) (nat_abs numerator) < 2 ^ 127) × (factor ≡ pos (value_factor (nat_abs divisor) (nat_abs denominator) (nat_abs numerator))) → factor ≡ pos (value_factor (common_denominator (objective_numbers model)) (common_denominator (objective_of model)) (common_numerator (objective_of model)))
-factor_found model divisor denominator numerator factor distinct is_divisor is_denominator is_numerator found =
-    found.1 ∙ ap pos (factor_from model divisor denominator numerator distinct is_divisor is_denominator is_numerator)
+pub factor_found : (model : Model) (divisor denominator numerator factor : ℤ) → divisor ≡ pos (common_denominator (objective_numbers model)) → denominator ≡ pos (common_denominator (objective_of model)) → numerator ≡ pos (common_numerator (objective_of model)) → (value_factor (nat_abs divisor) (nat_abs denominator) (nat_abs numerator) < 2 ^ 127) × (factor ≡ pos (value_factor (nat_abs divisor) (nat_abs denominator) (nat_abs numerator))) → factor ≡ pos (value_factor (common_denominator (objective_numbers model)) (common_denominator (objective_of model)) (common_numerator (objective_of model)))
+factor_found model divisor denominator numerator factor is_divisor is_denominator is_numerator found =
+    found.1 ∙ ap pos (factor_from model divisor denominator numerator is_divisor is_denominator is_numerator)
 
-pub factor_not_found : (model : Model) (divisor denominator numerator : ℤ) → IsDistinctBelow (length model.columns) model.objective → divisor ≡ pos (common_denominator (objective_numbers model)) → denominator ≡ pos (common_denominator (objective_of model)) → numerator ≡ pos (common_numerator (factors_in model.objective)) → (value_factor (nat_abs divisor) (nat_abs denominator) (nat_abs numerator) < 2 ^ 127 → ⊥) → IsLargeObjective model
-factor_not_found model divisor denominator numerator distinct is_divisor is_denominator is_numerator wide =
-    large_from_value_factor model (λ narrow. wide (omega (arith, narrow, factor_from model divisor denominator numerator distinct is_divisor is_denominator is_numerator)))
+pub factor_not_found : (model : Model) (divisor denominator numerator : ℤ) → divisor ≡ pos (common_denominator (objective_numbers model)) → denominator ≡ pos (common_denominator (objective_of model)) → numerator ≡ pos (common_numerator (objective_of model)) → (value_factor (nat_abs divisor) (nat_abs denominator) (nat_abs numerator) < 2 ^ 127 → ⊥) → IsLargeObjective model
+factor_not_found model divisor denominator numerator is_divisor is_denominator is_numerator wide =
+    large_from_value_factor model (λ narrow. wide (omega (arith, narrow, factor_from model divisor denominator numerator is_divisor is_denominator is_numerator)))
 
 -- the costs and their span
 pub costs_long : (model : Model) (costs : List ℤ) (columns : List Bounds) → costs ≡ cost model → columns ≡ (integer_rows model).whole.box → length costs ≡ length columns

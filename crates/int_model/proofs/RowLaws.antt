@@ -70,6 +70,8 @@ numerator_from_some a (k, q, h, e, ne) z =
 pub record IsScaleOf (a : List ℚ) (s : RowScale) : Type 0 where
   pub narrow : common_denominator a < 2 ^ 127
   pub times : s.times ≡ scale a
+  pub denominator : s.denominator ≡ pos (common_denominator a)
+  pub numerator : s.numerator ≡ pos (common_numerator a)
   pub zeros : s.zeros ≡ eqb (common_numerator a) 0
 
 -- the scale of the items is that of their coefficients
@@ -77,6 +79,8 @@ pub scale_of_coefficients : (n : ℕ) (items : List Item) (s : RowScale) → IsD
 scale_of_coefficients n items s distinct found = record {
   narrow = omega (arith, found.0, same_denominator n items distinct);
   times = ap (λ (s : RowScale). s.times) found.1 ∙ sym (same_scale n items distinct);
+  denominator = ap (λ (s : RowScale). s.denominator) found.1 ∙ ap pos (sym (same_denominator n items distinct));
+  numerator = ap (λ (s : RowScale). s.numerator) found.1 ∙ ap pos (sym (same_numerator n items distinct));
   zeros = ap (λ (s : RowScale). s.zeros) found.1 ∙ ap (λ k. eqb k 0) (sym (same_numerator n items distinct));
 }
 

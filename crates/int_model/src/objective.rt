@@ -1,17 +1,18 @@
 //! The objective of integer rows: whole costs, and what makes a value of them.
 ghost use Rattle.std.specs.Prelude.{◌≡◌, ◌^◌, ◌<◌, length, pos, ◌<ℤ◌, ◌≤ℤ◌, nat_abs, OnOk, IfOk, IsErrOf, SomeIff, IfSome, OnSome, IfNone};
-ghost use Rattle.whole_rows.specs.WholeRows.{with_cost};
+ghost use Rattle.whole_rows.specs.WholeRows.{with_cost, span as span_of};
 ghost use Rattle.int_model.specs.declared.part.PartStop.TheVariants as part_stops;
-ghost use Rattle.int_model.specs.IntegerRows.{integer_rows, cost as cost_of, IsDistinctBelow};
+ghost use Rattle.int_model.specs.Scale.{common_denominator, common_numerator};
+ghost use Rattle.int_model.specs.IntegerRows.{integer_rows, objective_of, cost as cost_of, IsDistinctBelow};
 ghost use Rattle.int_model.specs.ObjectiveValues.{value_factor as value_factor_of, MakesValues};
 ghost use Rattle.int_model.specs.Large.{IsLargeObjective};
 
 use crate::model::Model;
 use crate::part::PartStop;
 use crate::products::push_products;
-use crate::scales::{common_denominator, common_numerator, lcm, scale_of};
-use frac128::Frac;
-use whole_rows::{Bounds, DenseRows, span_of, with_term};
+use crate::scales::{RowScale, scale_of};
+use frac128::{Frac, lcm};
+use whole_rows::{DenseRows, with_term};
 
 /// The value of a point is (`constant` + `factor` * its cut value) / `divisor`.
 #[derive(Clone, Copy, Debug, Drop)]
@@ -41,31 +42,29 @@ pub(crate) fn set_objective(
     };
     cost.clear();
     push_products(cost, whole.columns(), items, &scale.times)?;
-    let Some(terms) = terms_of(cost, whole.bounds(), model) else {
+    let span = whole.set_cost(cost)?;
+    let Some(terms) = terms_of(&scale, span, model) else {
         return Err(PartStop::Large);
     };
-    whole.set_cost(cost)?;
     Ok(terms)
 }
 
-/// What makes a value of a sum of costs; none where the objective is large.
-fn terms_of(cost: &[i128], columns: &[Bounds], model: &Model) -> Option<ValueTerms>
-    requires cost { cost.now ≡ cost_of model.now }
-    requires columns { columns.now ≡ (integer_rows model.now).whole.box }
-    requires items { IsDistinctBelow (length model.now.columns) model.now.objective }
+/// What makes a value of a sum of costs, from the scale of the objective's coefficients and the span of the costs; none
+/// where the objective is large.
+fn terms_of(scale: &RowScale, span: u128, model: &Model) -> Option<ValueTerms>
+    requires denominator { scale.now.denominator ≡ pos (common_denominator (objective_of model.now)) }
+    requires numerator { scale.now.numerator ≡ pos (common_numerator (objective_of model.now)) }
+    requires span { span ≡ span_of (cost_of model.now) (integer_rows model.now).whole.box }
     ensures terms { IfSome result (MakesValues model.now) }
     ensures small { OnSome result (IsLargeObjective model.now → ⊥) }
     ensures large { IfNone result (IsLargeObjective model.now) }
 {
-    let items = model.objective.items();
-    let denominator = common_denominator(items)?;
-    let divisor = lcm(model.constant.den(), denominator)?;
+    let divisor = lcm(model.constant.den(), scale.denominator)?;
     let Ok(multiple) = Frac::whole(divisor).mul(&model.constant) else {
         return None;
     };
     let constant = multiple.num();
-    let factor = value_factor(divisor, denominator, common_numerator(items))?;
-    let span = span_of(cost, columns)?;
+    let factor = value_factor(divisor, scale.denominator, scale.numerator)?;
     let sum = with_term(0, constant, 1)?;
     with_term(sum, factor, span)?;
     Some(ValueTerms {

@@ -2,7 +2,6 @@
 ghost use Rattle.std.specs.Prelude.{◌≡◌, ◌^◌, ◌<◌, ◌<ℤ◌, pos, nat_abs, SomeIff, IfOk, OnOk, OnErr, IsTrue};
 ghost use Rattle.std.specs.Bool.{IsFalse};
 ghost use Rattle.std.specs.Option.{option_map};
-ghost use Rattle.exact_math.specs.Gcd.{lcm as lcm_of};
 ghost use Rattle.exact_math.specs.Rational.{whole, ◌*ℚ◌, floor, ceil};
 ghost use Rattle.frac128.specs.Range.{ProductInRange};
 ghost use Rattle.int_model.specs.Scale.{common_denominator as common_denominator_of, common_numerator as common_numerator_of};
@@ -10,20 +9,10 @@ ghost use Rattle.int_model.specs.ItemFactors.{factors_in, row_scale};
 ghost use Rattle.int_model.specs.Large.{LeavesRange};
 
 use crate::model::Item;
-use frac128::{Frac, Wide, gcd};
-
-/// The least common multiple; none where it is above 2^127 - 1.
-pub(crate) fn lcm(a: i128, b: i128) -> Option<i128>
-    requires a_positive { pos 0 <ℤ a }
-    requires b_positive { pos 0 <ℤ b }
-    ensures { SomeIff result (lcm_of (nat_abs a) (nat_abs b) < 2 ^ 127) (pos (lcm_of (nat_abs a) (nat_abs b))) }
-{
-    let common = gcd(a, b);
-    (a / common).checked_mul(b)
-}
+use frac128::{Frac, Wide, gcd, lcm};
 
 /// The least common multiple of the factors' denominators; none where it is above 2^127 - 1.
-pub(crate) fn common_denominator(items: &[Item]) -> Option<i128>
+fn common_denominator(items: &[Item]) -> Option<i128>
     ensures { SomeIff result (common_denominator_of (factors_in items.now) < 2 ^ 127) (pos (common_denominator_of (factors_in items.now))) }
 {
     let mut common = 1;
@@ -34,7 +23,7 @@ pub(crate) fn common_denominator(items: &[Item]) -> Option<i128>
 }
 
 /// The greatest common divisor of the factors' numerators, 0 where all are 0.
-pub(crate) fn common_numerator(items: &[Item]) -> i128
+fn common_numerator(items: &[Item]) -> i128
     ensures value { result ≡ pos (common_numerator_of (factors_in items.now)) }
     ensures narrow { common_numerator_of (factors_in items.now) < 2 ^ 127 }
 {
@@ -49,6 +38,10 @@ pub(crate) fn common_numerator(items: &[Item]) -> i128
 #[derive(Clone, Copy, Debug, Drop)]
 pub(crate) struct RowScale {
     pub(crate) times: Frac,
+    /// The least common multiple of the coefficients' denominators.
+    pub(crate) denominator: i128,
+    /// The greatest common divisor of the coefficients' numerators, 0 where all are 0.
+    pub(crate) numerator: i128,
     pub(crate) zeros: bool,
 }
 
@@ -61,11 +54,15 @@ pub(crate) fn scale_of(items: &[Item]) -> Option<RowScale>
     if numerator == 0 {
         return Some(RowScale {
             times: Frac::whole(1),
+            denominator,
+            numerator,
             zeros: true,
         });
     }
     Some(RowScale {
         times: Frac::new(denominator, numerator).unwrap(),
+        denominator,
+        numerator,
         zeros: false,
     })
 }

@@ -11,4 +11,4 @@ pub mod EndLaws
 pub mod LeastLaws
 pub mod RunSteps
 pub mod SolveSteps
-pub mod ContraryRows
+pub mod WorkedSystems

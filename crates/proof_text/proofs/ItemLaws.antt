@@ -15,7 +15,7 @@ use Rattle.proof_text.specs.Numbers.{SpellsSize, SpellsNumber}
 use Rattle.proof_text.specs.NumberLaws.{decimal-digits, decimal-same}
 use Rattle.proof_text.specs.TokenLaws.{decimal-token, signed-token, signed-same, token-cons}
 use Rattle.proof_text.specs.Items.{SpellsBetween, SpellsItem, SpellsFactor}
-use Rattle.proof_text.proofs.ShapeLaws.{same_cut, token_free}
+use Rattle.proof_text.specs.PairLaws.{same_cut, token_free}
 
 module _ (low high : ℤ) (least : neg_ℤ (pos (2 ^ 126)) ≤ℤ low) (most : high ≤ℤ pos (2 ^ 126)) (word : List ℕ) where
   in_size : (number : ℤ) → low ≤ℤ number → number ≤ℤ high → IsOfSize (2 ^ 126) number
@@ -39,7 +39,7 @@ small_place place h = omega (arith, h)
 
 -- a word with a colon between tokens is cut at it
 pub pair_cut : (word first second : List ℕ) (parts : Pair) → IsPairOf word parts → IsToken first → IsToken second → word ≡ first ++ 58 ∷ second → (parts.first.now ≡ first) × (parts.second.now ≡ second)
-pair_cut word first second parts p a b e = same_cut parts.first.now first parts.second.now second (token_free parts.first.now p.first) (token_free first a) (sym p.spelled ∙ e)
+pair_cut word first second parts p a b e = same_cut 58 parts.first.now first parts.second.now second (token_free parts.first.now p.first) (token_free first a) (sym p.spelled ∙ e)
 
 -- a number of a smaller size
 from_97 : (z : ℤ) → IsOfSize (2 ^ 97) z → IsOfSize (2 ^ 126) z

@@ -2,11 +2,12 @@
 use Rattle.std.proofs.Common.{◌≡◌, ◌≢◌, ℕ, List, [], ◌∷◌, ◌++◌, length, All, Bool, true, false, IsTrue, ◌↔◌, not, ⊎_elim, codes, refl, sym, ap, subst, ◌∙◌, arith}
 use Rattle.std.specs.List.{list_all}
 use Rattle.std.proofs.lemmas.Bool.{and_parts, eqb-false, not-true}
-use Rattle.std.proofs.lemmas.List.Elements.{All-nil, All-cons, All-head, All-tail, All-append, All-weaker}
+use Rattle.std.proofs.lemmas.List.Elements.{All-nil, All-cons, All-head, All-tail, All-weaker}
 use Rattle.std.proofs.lemmas.List.Splits.{length-slice_split}
 use Rattle.proof_text.specs.Spelling.{further, in_words}
 use Rattle.proof_text.specs.Words.{is_blank, IsFreeOf, IsWord, words_of}
 use Rattle.proof_text.specs.WordLaws.{in_words-of, words_of-in}
+use Rattle.proof_text.specs.PairLaws.{same_cut, token_free, token_word, pairs_words}
 use Rattle.proof_text.specs.Shapes.{IsToken, IsDigit, IsDigitsWord, IsNumberWord, IsPair, ArePairs, IsMarkWord, HasLineShape, HasSplitShape, HasPointShape}
 use Rattle.proof_text.specs.declared.shapes.Pair.{Pair}
 use Rattle.proof_text.specs.Lent.{IsPairOf}
@@ -30,36 +31,15 @@ no_colon (byte ∷ first) second h = no_colon first second (All-tail (λ other. 
 pub no_pair : (word : List ℕ) → IsFreeOf 58 word → IsPair word → ⊥
 no_pair word free p = no_colon p.0 p.1 (subst (IsFreeOf 58) p.2 free)
 
-pub token_free : (word : List ℕ) → IsToken word → IsFreeOf 58 word
-token_free word t = All-weaker (λ byte. (byte ≢ 32) × (byte ≢ 58)) (λ byte. byte ≢ 58) (λ byte both. both.1) word t.1
-
-token_word : (word : List ℕ) → IsToken word → IsWord word
-token_word word t = All-weaker (λ byte. (byte ≢ 32) × (byte ≢ 58)) (λ byte. byte ≢ 32) (λ byte both. both.0) word t.1
-
-pub same_cut : (front first back second : List ℕ) → IsFreeOf 58 front → IsFreeOf 58 first → front ++ 58 ∷ back ≡ first ++ 58 ∷ second → (front ≡ first) × (back ≡ second)
-same_cut [] [] back second h k e = (refl, cc)
-same_cut [] (byte ∷ first) back second h k e = absurd (All-head (λ other. other ≢ 58) byte first k (cc))
-same_cut (byte ∷ front) [] back second h k e = absurd (All-head (λ other. other ≢ 58) byte front h (cc))
-same_cut (byte ∷ front) (other ∷ first) back second h k e =
-    let rest : front ++ 58 ∷ back ≡ first ++ 58 ∷ second = cc in
-    let same = same_cut front first back second (All-tail (λ x. x ≢ 58) byte front h) (All-tail (λ x. x ≢ 58) other first k) rest in
-    let head : byte ≡ other = cc in
-    (cc (head, same.0), same.1)
-
 -- the parts that a pair has at its first colon are its tokens
 pub pair_parts : (word front back : List ℕ) → (word ≡ front ++ 58 ∷ back) × IsFreeOf 58 front → IsPair word → IsToken front × IsToken back
 pair_parts word front back cut p =
-    let same = same_cut front p.0 back p.1 cut.1 (token_free p.0 p.3) (sym cut.0 ∙ p.2) in
+    let same = same_cut 58 front p.0 back p.1 cut.1 (token_free p.0 p.3) (sym cut.0 ∙ p.2) in
     (subst IsToken (sym same.0) p.3, subst IsToken (sym same.1) p.4)
 
 -- a pair from what is lent of it
 pub is_pair_of : (word : List ℕ) (pair : Pair) → IsPairOf word pair → IsPair word
 is_pair_of word pair p = (pair.first.now, pair.second.now, p.spelled, p.first, p.second)
-
-pub pair_word : (word : List ℕ) → IsPair word → IsWord word
-pair_word word p =
-    subst IsWord (sym p.2)
-    (All-append (λ byte. byte ≢ 32) p.0 (58 ∷ p.1) (token_word p.0 p.3) (All-cons (λ byte. byte ≢ 32) 58 p.1 (λ e. omega arith) (token_word p.1 p.4)))
 
 -- ---- lines of pairs
 
@@ -70,9 +50,6 @@ further_in (word ∷ words) some = refl
 -- the words behind a first word of one byte
 pub behind_first : (first : ℕ) (rest : List ℕ) → first ∷ 32 ∷ rest ≡ in_words ((first ∷ []) ∷ words_of rest)
 behind_first first rest = ap (λ r. first ∷ 32 ∷ r) (sym (in_words-of rest)) ∙ ap (λ r. first ∷ r) (sym (further_in (words_of rest) (words_of-some rest)))
-
-pub pairs_words : (words : List (List ℕ)) → All IsPair words → All IsWord words
-pairs_words words h = All-weaker IsPair IsWord pair_word words h
 
 pub words_back : (words : List (List ℕ)) → words ≢ [] → All IsWord words → words_of (in_words words) ≡ words
 words_back [] some h = absurd (some refl)

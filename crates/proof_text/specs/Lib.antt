@@ -8,6 +8,9 @@ pub mod Numbers
 pub mod NumberLaws
 pub mod Items
 pub mod TokenLaws
+pub mod PairLaws
 pub mod PrintedShapes
 pub mod LineLengths
+pub mod OneLine
+pub mod OneSplit
 pub mod SplitLengths

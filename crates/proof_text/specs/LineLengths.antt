@@ -46,7 +46,8 @@ inequalities-length rows path end =
       slice_sides-length path,
     )
 
-past : (sides : List (Option Inequality)) (number : ℕ) → IsSome (get_or sides number None) → number < length sides
+-- a number behind them all names none
+pub past : (sides : List (Option Inequality)) (number : ℕ) → IsSome (get_or sides number None) → number < length sides
 past [] number there = absurd (true≢false (sym there))
 past (side ∷ sides) zero there = omega arith
 past (side ∷ sides) (suc number) there = omega (arith, past sides number there)

@@ -90,7 +90,8 @@ spelled_line-shape rows path end first text line spelled printable = (line_words
 
 -- ---- splits
 
-form_words-pairs : (column : ℕ) (form : List ℤ) → All IsPair (form_words column form)
+-- each word of a form is a pair
+pub form_words-pairs : (column : ℕ) (form : List ℤ) → All IsPair (form_words column form)
 form_words-pairs column [] = All-nil IsPair
 form_words-pairs column (factor ∷ form) =
     let word : List ℕ = pair (decimal column) factor in
@@ -112,6 +113,11 @@ form_words-some column (factor ∷ form) e =
     All-cons (λ f. f ≡ pos 0) factor form ((Decides-int_eq factor (pos 0)).0 t) (form_words-some (suc column) form (sym (ap (λ b. if b then rest else word ∷ rest) t) ∙ e)))
     (λ (t : int_eq factor (pos 0) ≡ false). let apart : word ∷ rest ≡ [] = sym (ap (λ b. if b then rest else word ∷ rest) t) ∙ e in absurd cc)
     (cases_Bool (int_eq factor (pos 0)))
+
+-- a mark is a token
+pub mark-token : (mark : Mark) → IsToken (mark_word mark)
+mark-token Thin = (λ none. absurd cc, All-cons (λ byte. (byte ≢ 32) × (byte ≢ 58)) 84 [] ((λ e. omega (arith, e)), (λ e. omega (arith, e))) (All-nil (λ byte. (byte ≢ 32) × (byte ≢ 58))))
+mark-token Plain = (λ none. absurd cc, All-cons (λ byte. (byte ≢ 32) × (byte ≢ 58)) 80 [] ((λ e. omega (arith, e)), (λ e. omega (arith, e))) (All-nil (λ byte. (byte ≢ 32) × (byte ≢ 58))))
 
 mark-is_mark : (mark : Mark) → IsMarkWord (mark_word mark)
 mark-is_mark Thin = inl refl

@@ -1,0 +1,2 @@
+pub mod MultipleSteps
+pub mod SumSteps

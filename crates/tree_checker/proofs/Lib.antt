@@ -1,4 +1,16 @@
+pub mod OneVerdict
+pub mod OneStep
+pub mod Unbroken
+pub mod LineLaws
+pub mod Reading
 pub mod Forests
 pub mod Completes
 pub mod Walks
 pub mod Texts
+pub mod StackLaws
+pub mod WordsOf
+pub mod ClaimLaws
+pub mod OpeningLaws
+pub mod NodeLaws
+pub mod JudgeLaws
+pub mod TextLaws

@@ -1,29 +1,15 @@
 -- A text is accepted where its lines pass to the end, and nowhere else. Then its claim is true.
-use Rattle.std.proofs.Common.{◌≡◌, ◌≢◌, ℕ, suc, ◌*◌, ◌^◌, ◌<◌, ◌≤◌, ℤ, pos, ◌+ℤ◌, ◌≤ℤ◌, ◌<ℤ◌, List, [], ◌∷◌, ◌++◌, length, refl, ap, ◌∙◌, subst, arith, Global, inl, inr}
-use Rattle.std.specs.Prelude.{Option, Some, None, IfSome, All, map, codes, unsigned_abs}
-use Rattle.std.specs.Option.{IsSomeAnd}
-use Rattle.std.proofs.lemmas.Int.{ints}
+use Rattle.std.proofs.Common.{◌≡◌, ℕ, ◌*◌, ◌^◌, ◌<◌, ◌≤◌, List, [], ◌∷◌, ◌++◌, length, refl, ap, ◌∙◌, subst, arith, Global, inl, inr}
+use Rattle.std.specs.Prelude.{codes}
 use Rattle.std.proofs.lemmas.List.{length-append}
 use Rattle.std.proofs.lemmas.List.Elements.{All-head, All-tail, All-nil, All-cons}
-use Rattle.exact_math.specs.Ring.{integers}
-use Rattle.exact_vectors.specs.Vectors.{dot}
-use Rattle.whole_rows.specs.declared.bounds.Bounds.{Bounds}
-use Rattle.whole_rows.specs.WholeRows.{WholeRows, IsWithinLimits, LiesIn, reach, span}
-use Rattle.whole_rows.specs.WeightLaws.{factor_le_term, size_within}
-use Rattle.farkas_rows.specs.declared.line.CutUse.{CutUse}
-use Rattle.farkas_rows.specs.declared.line.Line.{Line}
-use Rattle.farkas_rows.specs.declared.path.Slice.{Slice}
-use Rattle.farkas_rows.specs.Inequalities.{Inequality, below, above}
-use Rattle.farkas_rows.specs.Refutes.{multipliers, used}
-use Rattle.proof_tree.specs.declared.tree.Cut.{Cut}
-use Rattle.proof_tree.specs.declared.tree.Tree.{Tree, Empty, Split', Row_of-Tree, end_of-Tree, more_of-Tree}
-use Rattle.proof_tree.specs.Trees.{on_slice, IsOfSize, Closes, IsSplit, Holds, HoldEach}
+use Rattle.whole_rows.specs.WholeRows.{WholeRows, IsWithinLimits}
+use Rattle.proof_tree.specs.declared.tree.Tree.{Tree}
 use Rattle.proof_tree.specs.Soundness.{best_is_shown, none_is_shown}
 use Rattle.proof_text.specs.declared.claim.Claim.{Claim}
 use Rattle.proof_text.specs.declared.claim.Claim.TheVariants as claims
 use Rattle.proof_text.specs.Spelling.{in_lines, claim_line, head_lines, tree_lines}
-use Rattle.proof_text.specs.Printable.{IsPrintableLine, IsPrintableCut, IsPrintableTree, ArePrintableTrees, IsPrintableClaim}
-use Rattle.tree_checker.specs.Accepts.{longest, last_of, IsClaim, IsTrueOf, HasShortLines, Accepts}
+use Rattle.tree_checker.specs.Accepts.{longest, last_of, IsTrueOf, HasShortLines, Accepts}
 use Rattle.tree_checker.specs.Stages.{Stage, at_head, at_claim, at_node, at_below, at_above, at_done, at_end}
 use Rattle.tree_checker.specs.Passes.{PassesTo, PassTo, PassesWhole}
 use Rattle.tree_checker.specs.Written.{tree_printable, claim_printable}

@@ -1,20 +1,16 @@
 -- Why a line does not pass at its place: the first kind that holds.
-use Rattle.std.specs.Prelude.{◌≡◌, ◌⊎◌, ℕ, ◌*◌, ◌^◌, ◌≤◌, ◌<◌, ℤ, pos, ◌≤ℤ◌, List, ◌∷◌, length, map, All, codes, Option, Some, None, IfSome}
-use Rattle.std.specs.Option.{IsSomeAnd}
+use Rattle.std.specs.Prelude.{◌≡◌, ◌⊎◌, ℕ, ◌*◌, ◌^◌, ◌≤◌, ◌<◌, ℤ, pos, ◌≤ℤ◌, List, ◌∷◌, length, map, All, codes, Option, Some, None}
 use Rattle.std.specs.Fmt.{signed_decimal}
 use Rattle.whole_rows.specs.WholeRows.{WholeRows, Meets, span}
-use Rattle.farkas_rows.specs.declared.line.CutUse.{CutUse}
-use Rattle.farkas_rows.specs.declared.line.Line.{Line}
 use Rattle.farkas_rows.specs.Inequalities.{Inequality}
-use Rattle.farkas_rows.specs.Refutes.{Refutes, line_weight}
 use Rattle.proof_tree.specs.Trees.{IsOfSize}
 use Rattle.proof_text.specs.declared.claim.Claim.{Claim}
-use Rattle.proof_text.specs.Spelling.{in_words, line_words}
-use Rattle.proof_text.specs.Printable.{IsPrintableLine}
+use Rattle.proof_text.specs.Spelling.{in_words}
 use Rattle.proof_text.specs.Shapes.{IsNumberWord, HasLineShape, HasSplitShape}
 use Rattle.tree_checker.specs.declared.verdict.RejectKind.{RejectKind}
 use Rattle.tree_checker.specs.declared.verdict.RejectKind.TheVariants as kinds
 use Rattle.tree_checker.specs.Accepts.{last_of}
+use Rattle.tree_checker.specs.Lines.{IsFaultOn}
 use Rattle.tree_checker.specs.Stages.{OpenSplit, Opening, Stage, at_head, at_claim, at_node, at_below, at_above, at_done, at_end, path_of}
 use Rattle.tree_checker.specs.Passes.{opening_line, below_of, above_of}
 
@@ -26,26 +22,9 @@ SpellsNumbers text = (words : List (List ℕ)) × (text ≡ in_words (codes "OPT
 abbrev pub SpellsPoint : List ℕ → List ℤ → Type 0
 SpellsPoint text x = text ≡ in_words (codes "OPTIMAL" ∷ map signed_decimal x)
 
--- the line is this first word with a line over the inequalities of the path and the end
-abbrev pub SpellsLine : WholeRows → List OpenSplit → Option Inequality → List ℕ → List ℕ → Line → Type 0
-SpellsLine rows splits end first text line = (text ≡ in_words (first ∷ line_words line)) × IsPrintableLine rows (path_of splits) end line
-
--- each cut that the line uses has a value of at least the last one
-abbrev pub MayCut : WholeRows → Claim → Line → Type 0
-MayCut rows claimed line = IfSome line.cut (λ (cut : CutUse). IsSomeAnd (last_of rows claimed) (λ least. least ≤ℤ cut.value))
-
--- the line weighs at most 2 to the power 126
-abbrev pub IsLightLine : WholeRows → List OpenSplit → Option Inequality → Line → Type 0
-IsLightLine rows splits end line = line_weight rows (path_of splits) end line ≤ℤ pos (2 ^ 126)
-
--- the kinds of a line of multipliers, of which only those before `Record` are judged elsewhere
+-- the kinds of a line of multipliers at its place
 abbrev pub IsLineFault : WholeRows → Claim → List OpenSplit → Option Inequality → List ℕ → List ℕ → RejectKind → Type 0
-IsLineFault rows claimed splits end first text kinds.Record = ¬ HasLineShape first text
-IsLineFault rows claimed splits end first text kinds.Number = HasLineShape first text × ((line : Line) → ¬ SpellsLine rows splits end first text line)
-IsLineFault rows claimed splits end first text kinds.Weight = (line : Line) × SpellsLine rows splits end first text line × (¬ IsLightLine rows splits end line)
-IsLineFault rows claimed splits end first text kinds.Cut = (line : Line) × SpellsLine rows splits end first text line × IsLightLine rows splits end line × (¬ MayCut rows claimed line)
-IsLineFault rows claimed splits end first text kinds.Refute = (line : Line) × SpellsLine rows splits end first text line × IsLightLine rows splits end line × MayCut rows claimed line × (¬ Refutes rows (path_of splits) end line)
-IsLineFault rows claimed splits end first text _ = ⊥
+IsLineFault rows claimed splits end first text kind = IsFaultOn rows (last_of rows claimed) (path_of splits) end first text kind
 
 -- the form of a split, its first value and the number of its slices are in their ranges
 pub record IsPrintableOpening (rows : WholeRows) (opening : Opening) : Type 0 where

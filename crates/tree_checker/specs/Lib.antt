@@ -1,3 +1,4 @@
+pub mod Lines
 pub mod Accepts
 pub mod Stages
 pub mod Passes
@@ -5,3 +6,7 @@ pub mod Faults
 pub mod Rejects
 pub mod Written
 pub mod Verdicts
+pub mod Stacks
+pub mod Claims
+pub mod Openings
+pub mod Judging

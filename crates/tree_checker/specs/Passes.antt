@@ -2,12 +2,12 @@
 use Rattle.std.specs.Prelude.{◌≡◌, ◌⊎◌, ℕ, ◌+◌, ◌*◌, ◌^◌, ◌≤◌, pos, ◌+ℤ◌, ◌≤ℤ◌, List, [], ◌∷◌, length, codes, Option, Some, None}
 use Rattle.std.specs.Fmt.{signed_decimal}
 use Rattle.whole_rows.specs.WholeRows.{WholeRows}
-use Rattle.farkas_rows.specs.declared.line.Line.{Line}
 use Rattle.farkas_rows.specs.Inequalities.{Inequality, below, above}
-use Rattle.proof_tree.specs.Trees.{Closes, IsSplitForm, IsOfSize}
+use Rattle.proof_tree.specs.Trees.{IsSplitForm, IsOfSize}
 use Rattle.proof_text.specs.declared.claim.Claim.{Claim}
-use Rattle.proof_text.specs.Spelling.{in_words, in_lines, line_words, form_words, mark_word, claim_line}
+use Rattle.proof_text.specs.Spelling.{in_words, in_lines, form_words, mark_word, claim_line}
 use Rattle.tree_checker.specs.Accepts.{last_of, IsClaim, longest}
+use Rattle.tree_checker.specs.Lines.{SpellsClosing}
 use Rattle.tree_checker.specs.Stages.{OpenSplit, Opening, Stage, at_head, at_claim, at_node, at_below, at_above, at_done, at_end, path_of, behind, into}
 
 -- the first line of a split
@@ -23,7 +23,7 @@ above_of opening = above opening.form (opening.lo +ℤ opening.count)
 
 -- the line is this first word with a line that closes the path and the end
 abbrev pub IsClosing : WholeRows → Claim → List OpenSplit → Option Inequality → List ℕ → List ℕ → Type 0
-IsClosing rows claimed splits end first text = (line : Line) × (text ≡ in_words (first ∷ line_words line)) × Closes rows (last_of rows claimed) (path_of splits) end line
+IsClosing rows claimed splits end first text = SpellsClosing rows (last_of rows claimed) (path_of splits) end first text
 
 -- a split may have slices only where the path has room for one more
 pub record IsOpening (rows : WholeRows) (splits : List OpenSplit) (opening : Opening) : Type 0 where

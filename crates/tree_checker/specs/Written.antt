@@ -1,5 +1,5 @@
 -- What is printed of a tree that holds is accepted.
-use Rattle.std.proofs.Common.{◌≡◌, ◌≢◌, ℕ, suc, ◌*◌, ◌^◌, ◌<◌, ◌≤◌, ℤ, pos, ◌+ℤ◌, ◌≤ℤ◌, ◌<ℤ◌, List, [], ◌∷◌, ◌++◌, length, refl, ap, arith}
+use Rattle.std.proofs.Common.{◌≡◌, ◌≢◌, ℕ, suc, ◌*◌, ◌^◌, ◌≤◌, ℤ, pos, ◌+ℤ◌, ◌≤ℤ◌, ◌<ℤ◌, List, [], ◌∷◌, length, refl, ap, arith}
 use Rattle.std.specs.Prelude.{Option, Some, None, IfSome, All, map, codes, unsigned_abs}
 use Rattle.std.specs.Option.{IsSomeAnd}
 use Rattle.std.proofs.lemmas.Int.{ints}
@@ -19,7 +19,7 @@ use Rattle.proof_tree.specs.declared.tree.Tree.{Tree, Empty, Split', Row_of-Tree
 use Rattle.proof_tree.specs.Trees.{on_slice, IsOfSize, Closes, IsSplit, Holds, HoldEach}
 use Rattle.proof_text.specs.declared.claim.Claim.{Claim}
 use Rattle.proof_text.specs.declared.claim.Claim.TheVariants as claims
-use Rattle.proof_text.specs.Spelling.{in_words, line_words, claim_line, head_lines, tree_lines, forest_lines, closing_line, split_line, below_line, above_line, split_lines, proof_text}
+use Rattle.proof_text.specs.Spelling.{in_words, line_words, claim_line, tree_lines, forest_lines, closing_line, split_line, below_line, above_line, split_lines, proof_text}
 use Rattle.proof_text.specs.Printable.{IsPrintableLine, IsPrintableCut, IsPrintableTree, ArePrintableTrees, IsPrintableClaim}
 use Rattle.proof_text.specs.LineLengths.{printed_line-length}
 use Rattle.proof_text.specs.SplitLengths.{split_short, claim_short}
@@ -39,7 +39,7 @@ uses_some : (times : List ℤ) (inequalities : List Inequality) → dot integers
 uses_some [] inequalities h = absurd (omega (arith, ints, h))
 uses_some (t ∷ times) inequalities h = λ e. absurd cc
 
-line_printable : (rows : WholeRows) (last : Option ℤ) (path : List Slice) (end : Option Inequality) (line : Line) → Closes rows last path end line → IsPrintableLine rows path end line
+pub line_printable : (rows : WholeRows) (last : Option ℤ) (path : List Slice) (end : Option Inequality) (line : Line) → Closes rows last path end line → IsPrintableLine rows path end line
 line_printable rows last path end line closes = record {
   some = uses_some (multipliers line) (used rows path end line) closes.refutes.combination.negative;
   rising = closes.refutes.rising;

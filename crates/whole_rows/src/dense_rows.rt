@@ -77,19 +77,21 @@ impl DenseRows {
         Ok(())
     }
 
-    /// Puts other costs, one for each column, in place of those that stand. Where they are refused the rows are as before.
-    pub fn set_cost(&mut self, cost: &[i128]) -> Result<(), HeavyCost>
+    /// Puts other costs, one for each column, in place of those that stand, and answers the sum of each cost's size times
+    /// the reach of its column. Where they are refused the rows are as before.
+    pub fn set_cost(&mut self, cost: &[i128]) -> Result<u128, HeavyCost>
         requires { length cost.now ≡ length self.old.box }
         ensures ok { OnOk result (self.new ≡ with_cost self.old cost.now) }
+        ensures sum { IfOk result (λ sum. sum ≡ span cost.now self.old.box) }
         ensures light { OnOk result (span cost.now self.old.box ≤ 2 ^ 96) }
         ensures heavy { OnErr result (IsHeavy (span cost.now self.old.box)) }
         ensures err { OnErr result (self.new ≡ self.old) }
     {
-        if span_of(cost, &self.bounds).is_none() {
+        let Some(sum) = span_of(cost, &self.bounds) else {
             return Err(HeavyCost);
-        }
+        };
         self.cost.copy_from_slice(cost);
-        Ok(())
+        Ok(sum)
     }
 
     /// How many columns there are.

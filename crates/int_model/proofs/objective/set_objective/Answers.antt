@@ -7,8 +7,7 @@ use Rattle.whole_rows.specs.WholeRows.{with_cost}
 use Rattle.int_model.specs.IntegerRows.{objective_of, cost}
 use Rattle.int_model.proofs.RowLaws.{IsScaleOf, scale_of_coefficients}
 use Rattle.int_model.proofs.IntegerRowLaws.{box_wide}
-use Rattle.int_model.proofs.ObjectiveLaws.{large_from_items, costs_long, span_from, cost_leaves, cost_put}
-use Rattle.int_model.proofs.MultipleLaws.{cost_light}
+use Rattle.int_model.proofs.ObjectiveLaws.{large_from_items, costs_long, span_from, span_not_found, cost_leaves, cost_put}
 use Rattle.int_model.proofs.objective.set_objective.Goals as goal
 use Rattle.int_model.proofs.objective.set_objective.Goals.{In-Some, In_ok-push_products}
 
@@ -32,20 +31,26 @@ made : (c : In_ok-push_products) → IsScaleOf (objective_of c.args.model.now) c
 made c is =
     cost_put c.args.model.now c.in-Some.scale _ _ c.push_products.new.numbers.items is (c.columns.ensures.count ∙ box_wide c.args.model.now c.args.whole.now.box c.requires.columns) c.items-items.ensures (rw c.clear.ensures.items at c.in_ok-push_products.ensures.ok)
 
-pub terms_of-requires-clause-cost : goal.terms_of-requires-clause-cost
-terms_of-requires-clause-cost c =
-    let is = scale (goal.at.terms_of-requires-clause-cost c).In-Some in
-    c.deref.ensures.value ∙ made (goal.at.terms_of-requires-clause-cost c).In_ok-push_products is
+pub terms_of-requires-clause-denominator : goal.terms_of-requires-clause-denominator
+terms_of-requires-clause-denominator c = (scale (goal.at.terms_of-requires-clause-denominator c).In-Some).denominator
+
+pub terms_of-requires-clause-numerator : goal.terms_of-requires-clause-numerator
+terms_of-requires-clause-numerator c = (scale (goal.at.terms_of-requires-clause-numerator c).In-Some).numerator
+
+pub terms_of-requires-clause-span : goal.terms_of-requires-clause-span
+terms_of-requires-clause-span c =
+    let costs = c.deref.ensures.value ∙ made (goal.at.terms_of-requires-clause-span c).In_ok-push_products (scale (goal.at.terms_of-requires-clause-span c).In-Some) in
+    c.in_ok-span.ensures.sum ∙ span_from c.args.model.now _ c.args.whole.now.box costs c.requires.columns
 
 pub set_cost-requires : goal.set_cost-requires
 set_cost-requires c =
-    costs_long c.args.model.now _ c.args.whole.now.box (c.deref-2.ensures.value ∙ made (goal.at.set_cost-requires c).In_ok-push_products (scale (goal.at.set_cost-requires c).In-Some)) c.requires.columns
+    costs_long c.args.model.now _ c.args.whole.now.box (c.deref.ensures.value ∙ made (goal.at.set_cost-requires c).In_ok-push_products (scale (goal.at.set_cost-requires c).In-Some)) c.requires.columns
 
-pub returns-in_err-set_cost-clause-large : goal.returns-in_err-set_cost-clause-large
-returns-in_err-set_cost-clause-large c = λ e.
-    let costs = c.deref-2.ensures.value ∙ made (goal.at.returns-in_err-set_cost-clause-large c).In_ok-push_products (scale (goal.at.returns-in_err-set_cost-clause-large c).In-Some) in
-    absurd (omega (arith, c.in_err-set_cost.ensures.heavy, span_from c.args.model.now _ c.args.whole.now.box costs c.requires.columns, cost_light c.args.model.now c.in-Some-terms_of.ensures.small))
+pub returns-in_err-span-clause-large : goal.returns-in_err-span-clause-large
+returns-in_err-span-clause-large c = λ e.
+    let costs = c.deref.ensures.value ∙ made (goal.at.returns-in_err-span-clause-large c).In_ok-push_products (scale (goal.at.returns-in_err-span-clause-large c).In-Some) in
+    span_not_found c.args.model.now _ c.args.whole.now.box costs c.requires.columns (λ light. omega (arith, light, c.in_err-span.ensures.heavy))
 
 pub returns-clause-cost : goal.returns-clause-cost
 returns-clause-cost c =
-    c.in_ok-set_cost.ensures.ok ∙ ap (with_cost c.args.whole.now) (c.deref-2.ensures.value ∙ made (goal.at.returns-clause-cost c).In_ok-push_products (scale (goal.at.returns-clause-cost c).In-Some))
+    c.in_ok-span.ensures.ok ∙ ap (with_cost c.args.whole.now) (c.deref.ensures.value ∙ made (goal.at.returns-clause-cost c).In_ok-push_products (scale (goal.at.returns-clause-cost c).In-Some))

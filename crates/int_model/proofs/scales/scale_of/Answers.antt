@@ -18,4 +18,4 @@ returns c =
     let num_fits : FitsSigned w128 c.common_numerator-numerator.result = search rules in
     let answered = simp to_z-of_z at c.new.ensures in
     let some = not_zero_bits _ _ c.common_numerator-numerator.ensures.value c.if-numerator-eq0.false in
-    (c.in_ok-denominator.ensures.0, row_scale_is (factors_in c.args.items.now) c.unwrap.result (scale_is_answered (factors_in c.args.items.now) _ _ _ _ c.in_ok-denominator.ensures.1 c.common_numerator-numerator.ensures.value some answered c.unwrap.ensures) some)
+    (c.in_ok-denominator.ensures.0, simp to_z-of_z (row_scale_is (factors_in c.args.items.now) c.unwrap.result _ _ (scale_is_answered (factors_in c.args.items.now) _ _ _ _ c.in_ok-denominator.ensures.1 c.common_numerator-numerator.ensures.value some answered c.unwrap.ensures) c.in_ok-denominator.ensures.1 c.common_numerator-numerator.ensures.value some))

@@ -1,0 +1,5 @@
+pub mod NodePoints
+pub mod Ranges
+pub mod Checks
+pub mod RationalPoints
+pub mod RationalPointLaws
