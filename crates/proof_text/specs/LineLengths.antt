@@ -116,9 +116,9 @@ further-append (word ∷ words) others =
     omega (arith, length-append (32 ∷ word) (further (words ++ others)), length-append (32 ∷ word) (further words), further-append words others)
 
 -- a line of multipliers behind a first word of one byte
-pub printed_line-length : (rows : WholeRows) (path : List Slice) (end : Option Inequality) (first : ℕ) (line : Line) → length rows.rows ≤ 256 → length rows.box ≤ 256 → length path ≤ 2 * length rows.box → IsPrintableLine rows path end line
-    → length (in_words ((first ∷ []) ∷ line_words line)) ≤ 98304
-printed_line-length rows path end first line few narrow short printable =
+pub printed_line-bytes : (rows : WholeRows) (path : List Slice) (end : Option Inequality) (first : ℕ) (line : Line) → length rows.rows ≤ 256 → length rows.box ≤ 256 → length path ≤ 2 * length rows.box → IsPrintableLine rows path end line
+    → length (in_words ((first ∷ []) ∷ line_words line)) ≤ 90300
+printed_line-bytes rows path end first line few narrow short printable =
     let sides : length (inequalities rows path end) ≤ 2049 = omega (arith, inequalities-length rows path end, few, narrow, short) in
     let below : All (λ (item : Use). item.index < 2049) line.items =
     All-weaker (λ (item : Use). IsSome (inequality_at rows path end item.index)) (λ (item : Use). item.index < 2049) (λ item there. omega (arith, past (inequalities rows path end) item.index there, sides)) line.items printable.there in
@@ -126,3 +126,8 @@ printed_line-length rows path end first line few narrow short printable =
     let count : length line.items ≤ 2049 =
     omega (arith, rising-length (map (λ (item : Use). item.index) line.items) 2049 printable.rising (All-map (λ number. number < 2049) (λ (item : Use). item.index) line.items below), length-map line.items (λ (item : Use). item.index)) in
     omega (arith, further-append (option_to_list (option_map cut_word line.cut)) (map use_word line.items), cut_words-length line.cut parts.0, uses-length line.items below parts.1, count)
+
+-- so it is no longer than a line may be
+pub printed_line-length : (rows : WholeRows) (path : List Slice) (end : Option Inequality) (first : ℕ) (line : Line) → length rows.rows ≤ 256 → length rows.box ≤ 256 → length path ≤ 2 * length rows.box → IsPrintableLine rows path end line
+    → length (in_words ((first ∷ []) ∷ line_words line)) ≤ 98304
+printed_line-length rows path end first line few narrow short printable = omega (arith, printed_line-bytes rows path end first line few narrow short printable)

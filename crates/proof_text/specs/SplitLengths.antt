@@ -53,8 +53,8 @@ count_short (pos n) h = omega (arith, length-decimal-le_wide 30 n (omega arith) 
 count_short (negsuc n) h = absurd (omega (arith, ints, h))
 
 -- a split's first line is short
-pub split_short : (rows : WholeRows) (path : List Slice) (cut : Cut) → length rows.box ≤ 256 → IsPrintableCut rows path cut → length (split_line cut) ≤ 98304
-split_short rows path cut few printable =
+pub split_bytes : (rows : WholeRows) (path : List Slice) (cut : Cut) → length rows.box ≤ 256 → IsPrintableCut rows path cut → length (split_line cut) ≤ 9500
+split_bytes rows path cut few printable =
     let form = factors_short 0 cut.form (omega (arith, few, printable.dense)) printable.factors in
     let lo = signed_short cut.lo printable.lo in
     let count = count_short cut.count printable.count in
@@ -71,6 +71,9 @@ split_short rows path cut few printable =
       length-append (32 ∷ signed_decimal cut.lo) ((32 ∷ signed_decimal cut.count) ++ rest),
       length-append (32 ∷ signed_decimal cut.count) rest,
     )
+
+pub split_short : (rows : WholeRows) (path : List Slice) (cut : Cut) → length rows.box ≤ 256 → IsPrintableCut rows path cut → length (split_line cut) ≤ 98304
+split_short rows path cut few printable = omega (arith, split_bytes rows path cut few printable)
 
 -- ---- the claim
 

@@ -10,3 +10,4 @@ pub mod Stacks
 pub mod Claims
 pub mod Openings
 pub mod Judging
+pub mod TextSizes

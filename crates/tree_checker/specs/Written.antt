@@ -61,7 +61,7 @@ factors_of_size limit (factor ∷ form) (bounds ∷ box) e h =
     (of_size limit factor (omega (arith, h, factor_le_term factor bounds)))
     (factors_of_size limit form box (omega (arith, e)) (omega (arith, h)))
 
-cut_printable : (rows : WholeRows) (last : Option ℤ) (path : List Slice) (cut : Cut) → IsSplit rows last path cut → IsPrintableCut rows path cut
+pub cut_printable : (rows : WholeRows) (last : Option ℤ) (path : List Slice) (cut : Cut) → IsSplit rows last path cut → IsPrintableCut rows path cut
 cut_printable rows last path cut split = record {
   dense = split.form.dense;
   some = split.form.some;
