@@ -154,7 +154,7 @@ judged_complete given now status out judges = record {
       ⊎_elim (λ decided. inl decided) (λ spent. inr (inl spent)) (ends command nodes solves text proof model status small (gives given status out judges command text proof tells));
   enough = λ command nodes text proof model solves tells small enough calm.
       inl (decides command nodes solves text proof model status small enough (gives given status out judges command text proof tells));
-  checks = λ command text proof model task tells small short calm. inl (checks command text proof model status task small short (gives given status out judges command text proof tells));
+  checks = λ command text proof model task tells small short calm. inl (checks command task text proof model status small short (gives given status out judges command text proof tells));
 }
 
 -- and so is each where a fault rose

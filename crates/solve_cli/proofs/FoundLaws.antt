@@ -17,11 +17,11 @@ use Rattle.int_model.specs.Large.{HasNoLargePart}
 use Rattle.proof_text.specs.declared.claim.Claim.TheVariants as claims
 use Rattle.proof_text.specs.Spelling.{proof_text, part_text}
 use Rattle.tree_checker.specs.Written.{written_accepted}
+use Rattle.tree_checker.specs.TextSizes.{proof_bytes}
 use Rattle.solve_cli.specs.Report.{bare_lines, found_lines}
 use Rattle.solve_cli.specs.Outputs.{with_proof}
 use Rattle.solve_cli.specs.Verdict.{rows_of, enough_nodes, FindsBest, FindsNone, SpendsBudget}
 use Rattle.solve_cli.specs.Solving.{HasRows}
-use Rattle.solve_cli.proofs.LengthLaws.{proof_within}
 
 module _ (nodes : ℕ) (model : Model) (has : HasRows model) where
   abbrev pub IsTree : Tree → Option (List ℤ) → Type 0
@@ -48,7 +48,7 @@ module _ (nodes : ℕ) (model : Model) (has : HasRows model) where
     within = done.counted;
     report = ap (λ lines. with_proof lines (proof_text (claims.Optimal point) tree)) (found_same (codes "OPTIMAL") value (value_at model point) point a (records tree) b (plain_splits tree) is_value is_a is_b);
     accepted = written_accepted (rows_of model) (claims.Optimal point) tree limits done.known done.holds;
-    short = proof_within (rows_of model) (claims.Optimal point) tree limits done.known done.holds (omega (arith, few, done.counted));
+    short = omega (arith, few, done.counted, proof_bytes (rows_of model) (claims.Optimal point) tree limits done.known done.holds);
   }
 
   pub finds_none : IsWithinLimits (rows_of model) → nodes ≤ 1000 → (tree : Tree) (a b : ℕ) → IsTree tree None → a ≡ records tree → b ≡ plain_splits tree → FindsNone nodes model (with_proof (bare_lines (codes "INFEASIBLE") a b) (proof_text claims.Infeasible tree))
@@ -60,7 +60,7 @@ module _ (nodes : ℕ) (model : Model) (has : HasRows model) where
     within = done.counted;
     report = ap (λ lines. with_proof lines (proof_text claims.Infeasible tree)) (bare_same (codes "INFEASIBLE") a (records tree) b (plain_splits tree) is_a is_b);
     accepted = written_accepted (rows_of model) claims.Infeasible tree limits tt done.holds;
-    short = proof_within (rows_of model) claims.Infeasible tree limits tt done.holds (omega (arith, few, done.counted));
+    short = omega (arith, few, done.counted, proof_bytes (rows_of model) claims.Infeasible tree limits tt done.holds);
   }
 
   few_nodes : nodes < (widest (rows_of model).box + 2) ^ (2 * length (rows_of model).box) → nodes < enough_nodes model

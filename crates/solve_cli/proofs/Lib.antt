@@ -11,6 +11,5 @@ pub mod SolveLaws
 pub mod VerdictLaws
 pub mod HeadlineLaws
 pub mod PlainPathLaws
-pub mod LengthLaws
 pub mod FoundLaws
 pub mod CheckLaws

@@ -1,6 +1,7 @@
 -- A text gives one status at most, unless the budget is spent, and which ones it may give.
 use Rattle.std.proofs.Common.{◌≡◌, ◌⊎◌, ⊎_elim, inl, inr, ℕ, ℤ, ◌≤◌, ◌<◌, List, [], length, refl, sym, ap, subst, ◌∙◌, arith}
 use Rattle.std.specs.Prelude.{Result, Ok, Err}
+use Rattle.whole_rows.specs.WholeRows.{WholeRows, IsWithinLimits}
 use Rattle.int_model.specs.declared.part.Part.{Part}
 use Rattle.int_model.specs.declared.model.Model.{Model}
 use Rattle.int_model.specs.Points.{IsPoint}
@@ -8,6 +9,9 @@ use Rattle.int_model.specs.Large.{IsFirstLarge, HasNoLargePart}
 use Rattle.int_model.specs.FirstLargeLaws.{first_large_is_one}
 use Rattle.mps_model.specs.declared.fault.TextFault.{TextFault}
 use Rattle.mps_model.specs.Meaning.{meaning}
+use Rattle.tree_checker.specs.declared.verdict.Verdict.{Verdict as Checked}
+use Rattle.tree_checker.specs.declared.verdict.Verdict.TheVariants as checked
+use Rattle.tree_checker.specs.Verdicts.{IsVerdict}
 use Rattle.solve_cli.specs.declared.status.Input.TheVariants.{ModelText, ProofText}
 use Rattle.solve_cli.specs.declared.status.Status.{Status}
 use Rattle.solve_cli.specs.declared.status.Status.TheVariants.{Optimal, Infeasible, Accepted, Spent, Text, TooLong, Large, Rejected}
@@ -15,7 +19,7 @@ use Rattle.mps_fields.specs.Lines.{most_bytes}
 use Rattle.solve_cli.specs.Words.{Reading, solving, checking, Job}
 use Rattle.solve_cli.specs.Limits.{most_proof_bytes}
 use Rattle.solve_cli.specs.Outputs.{Output}
-use Rattle.solve_cli.specs.Verdict.{enough_nodes, Solves, Checks, Comes, States, IsStated, IsRefused, IsTooLong, Verdict}
+use Rattle.solve_cli.specs.Verdict.{rows_of, enough_nodes, Solves, Checks, Comes, States, IsStated, IsRefused, IsTooLong, Verdict}
 use Rattle.solve_cli.specs.Answer.{IsDecided, IsChecked, StatesSmall, SameUnlessSpent, Gives}
 
 -- ---- models
@@ -63,12 +67,59 @@ not_spent nodes model status out enough s spent =
     absurd (omega (arith, enough, found.few))
 
 -- a proof within its limit is accepted or refused at a line, where the model has no large part
-checked : (proof : List ℕ) (model : Model) (status : Status) (out : Output) → HasNoLargePart model → length proof ≤ most_proof_bytes → Checks proof model status out → IsChecked model proof status
-checked proof model Accepted out small short c = inl (refl, (c.claim, c.accepted))
-checked proof model (Rejected reject) out small short c = inr (reject, refl, c.refused)
-checked proof model (TooLong ProofText) out small short c = absurd (omega (arith, short, c.long))
-checked proof model (Large part) out small short c = absurd (small part c.first.large)
-checked proof model status out small short c = absurd c
+checked_small : (proof : List ℕ) (model : Model) (status : Status) (out : Output) → HasNoLargePart model → length proof ≤ most_proof_bytes → Checks proof model status out → IsChecked model proof status
+checked_small proof model Accepted out small short c = inl (refl, (c.claim, c.accepted))
+checked_small proof model (Rejected reject) out small short c = inr (reject, refl, c.refused)
+checked_small proof model (TooLong ProofText) out small short c = absurd (omega (arith, short, c.long))
+checked_small proof model (Large part) out small short c = absurd (small part c.first.large)
+checked_small proof model status out small short c = absurd c
+
+-- what a check comes to: the checker's verdict, or a proof that is too long, or a first large part
+module _ (proof : List ℕ) (model : Model) where
+  abbrev status_of : Checked → Status
+  status_of (checked.Accepted claim) = Accepted
+  status_of (checked.Rejected reject) = Rejected reject
+
+  record IsOfChecker (status : Status) : Type 0 where
+    small : HasNoLargePart model
+    limits : IsWithinLimits (rows_of model)
+    short : length proof ≤ most_proof_bytes
+    verdict : Checked
+    said : IsVerdict (rows_of model) proof verdict
+    same : status ≡ status_of verdict
+
+  record IsTooMuch (status : Status) : Type 0 where
+    small : HasNoLargePart model
+    long : most_proof_bytes < length proof
+    same : status ≡ TooLong ProofText
+
+  abbrev IsOfLarge : Status → Type 0
+  IsOfLarge status = (part : Part) × (status ≡ Large part) × IsFirstLarge model part
+
+  checked_as : (status : Status) (out : Output) → Checks proof model status out → IsOfChecker status ⊎ (IsTooMuch status ⊎ IsOfLarge status)
+  checked_as Accepted out c = inl (record { small = c.small; limits = c.limits; short = c.short; verdict = checked.Accepted c.claim; said = c.accepted; same = refl })
+  checked_as (Rejected reject) out c = inl (record { small = c.small; limits = c.limits; short = c.short; verdict = checked.Rejected reject; said = c.refused; same = refl })
+  checked_as (TooLong ProofText) out c = inr (inl (record { small = c.small; long = c.long; same = refl }))
+  checked_as (Large part) out c = inr (inr (part, refl, c.first))
+  checked_as status out c = absurd c
+
+  module _ (one_verdict : (verdict other : Checked) → IsWithinLimits (rows_of model) → IsVerdict (rows_of model) proof verdict → IsVerdict (rows_of model) proof other → verdict ≡ other) where
+    never_both : {P : Type 0} → most_proof_bytes < length proof → length proof ≤ most_proof_bytes → P
+    never_both long short = absurd (omega (arith, long, short))
+
+    one_check : (one other : Status) (out more : Output) → Checks proof model one out → Checks proof model other more → one ≡ other
+    one_check one other out more a b =
+        ⊎_elim
+        (λ first. ⊎_elim (λ second. first.same ∙ ap status_of (one_verdict first.verdict second.verdict first.limits first.said second.said) ∙ sym second.same)
+        (λ r. ⊎_elim (λ long. never_both long.long first.short) (λ large. absurd (first.small large.0 large.2.large)) r) (checked_as other more b))
+        (λ l. ⊎_elim
+        (λ long. ⊎_elim (λ second. never_both long.long second.short)
+        (λ r. ⊎_elim (λ second. long.same ∙ sym second.same) (λ large. absurd (long.small large.0 large.2.large)) r) (checked_as other more b))
+        (λ large. ⊎_elim (λ second. absurd (second.small large.0 large.2.large))
+        (λ r. ⊎_elim (λ long. absurd (long.small large.0 large.2.large))
+        (λ same. large.1 ∙ ap Large (first_large_is_one model large.0 same.0 large.2 same.2) ∙ sym same.1) r) (checked_as other more b))
+        l)
+        (checked_as one out a)
 
 -- ---- texts
 
@@ -106,26 +157,26 @@ module _ (reading : Reading) (text : List ℕ) (Follows : Model → Status → O
       (λ stated. subst (λ m. Follows m status out) (same_model found stated.model model stated.states small.states) stated.holds) r)
       (judged status out v)
 
-module _ (reading : Reading) (text : List ℕ) (nodes : ℕ) where
-  one_search : (one other : Status) (out more : Output) → IsStated reading text (λ model. Solves nodes model one out) → IsStated reading text (λ model. Solves nodes model other more) → SameUnlessSpent one other
-  one_search one other out more a b =
-      one_solve nodes b.model one other out more
-      (subst (λ m. Solves nodes m one out) (same_model (meaning reading.layout reading.upper text) a.model b.model a.states b.states) a.holds) b.holds
+-- what holds of two statuses that a model comes to, and of one and the same status, holds of two that a text gives
+module _ (reading : Reading) (text : List ℕ) (Follows : Model → Status → Output → Type 0) (R : Status → Status → Type 0) (alike : (one other : Status) → one ≡ other → R one other)
+    (models : (model : Model) (one other : Status) (out more : Output) → Follows model one out → Follows model other more → R one other) where
+  abbrev meant : Result Model TextFault
+  meant = meaning reading.layout reading.upper text
 
-  one_status : (one other : Status) (out more : Output) → Verdict reading (Solves nodes) text one out → Verdict reading (Solves nodes) text other more → SameUnlessSpent one other
-  one_status one other out more a b =
+  one_text : (one other : Status) (out more : Output) → Verdict reading Follows text one out → Verdict reading Follows text other more → R one other
+  one_text one other out more a b =
       ⊎_elim
-      (λ long. ⊎_elim (λ same. inl (long.0 ∙ sym same.0))
-      (λ r. ⊎_elim (λ refused. not_long reading text (Solves nodes) long.1.long refused.2.short) (λ stated. not_long reading text (Solves nodes) long.1.long stated.short) r) (judged reading text (Solves nodes) other more b))
+      (λ long. ⊎_elim (λ same. alike one other (long.0 ∙ sym same.0))
+      (λ r. ⊎_elim (λ refused. not_long reading text Follows long.1.long refused.2.short) (λ stated. not_long reading text Follows long.1.long stated.short) r) (judged reading text Follows other more b))
       (λ l. ⊎_elim
-      (λ refused. ⊎_elim (λ long. not_long reading text (Solves nodes) long.1.long refused.2.short)
-      (λ r. ⊎_elim (λ same. inl (refused.1 ∙ ap Text (same_fault (meaning reading.layout reading.upper text) refused.0 same.0 refused.2.first same.2.first) ∙ sym same.1))
-      (λ stated. never (meaning reading.layout reading.upper text) stated.model refused.0 stated.states refused.2.first) r) (judged reading text (Solves nodes) other more b))
-      (λ stated. ⊎_elim (λ long. not_long reading text (Solves nodes) long.1.long stated.short)
-      (λ r. ⊎_elim (λ refused. never (meaning reading.layout reading.upper text) stated.model refused.0 stated.states refused.2.first)
-      (λ same. one_search one other out more stated same) r) (judged reading text (Solves nodes) other more b))
+      (λ refused. ⊎_elim (λ long. not_long reading text Follows long.1.long refused.2.short)
+      (λ r. ⊎_elim (λ same. alike one other (refused.1 ∙ ap Text (same_fault meant refused.0 same.0 refused.2.first same.2.first) ∙ sym same.1))
+      (λ stated. never meant stated.model refused.0 stated.states refused.2.first) r) (judged reading text Follows other more b))
+      (λ stated. ⊎_elim (λ long. not_long reading text Follows long.1.long stated.short)
+      (λ r. ⊎_elim (λ refused. never meant stated.model refused.0 stated.states refused.2.first)
+      (λ same. models same.model one other out more (subst (λ m. Follows m one out) (same_model meant stated.model same.model stated.states same.states) stated.holds) same.holds) r) (judged reading text Follows other more b))
       l)
-      (judged reading text (Solves nodes) one out a)
+      (judged reading text Follows one out a)
 
 -- ---- commands
 
@@ -135,7 +186,8 @@ module _ (command : Job) (nodes : ℕ) (solves : command.task ≡ solving nodes)
   solve_verdict status gives = subst (λ task. Verdict command.reading (Comes task proof) text status gives.0) solves gives.1
 
   pub one_given : (one other : Status) → Gives command text proof one → Gives command text proof other → SameUnlessSpent one other
-  one_given one other a b = one_status command.reading text nodes one other a.0 b.0 (solve_verdict one a) (solve_verdict other b)
+  one_given one other a b =
+      one_text command.reading text (Solves nodes) SameUnlessSpent (λ one other same. inl same) (one_solve nodes) one other a.0 b.0 (solve_verdict one a) (solve_verdict other b)
 
   pub ends : (model : Model) (status : Status) → StatesSmall command.reading text model → Gives command text proof status → IsDecided model status ⊎ (status ≡ Spent)
   ends model status small gives = ends_model nodes model status gives.0 small.small (model_of command.reading text (Solves nodes) model status gives.0 small (solve_verdict status gives))
@@ -147,8 +199,15 @@ module _ (command : Job) (nodes : ℕ) (solves : command.task ≡ solving nodes)
       (ends model status small gives)
 
 -- and under one that checks
-pub checks : (command : Job) (text proof : List ℕ) (model : Model) (status : Status) → command.task ≡ checking → StatesSmall command.reading text model → length proof ≤ most_proof_bytes → Gives command text proof status
-    → IsChecked model proof status
-checks command text proof model status task small short gives =
-    let verdict = subst (λ task. Verdict command.reading (Comes task proof) text status gives.0) task gives.1 in
-    checked proof model status gives.0 small.small short (model_of command.reading text (Checks proof) model status gives.0 small verdict)
+module _ (command : Job) (task : command.task ≡ checking) (text proof : List ℕ) where
+  check_verdict : (status : Status) → (gives : Gives command text proof status) → Verdict command.reading (Checks proof) text status gives.0
+  check_verdict status gives = subst (λ task. Verdict command.reading (Comes task proof) text status gives.0) task gives.1
+
+  pub one_checked : ((rows : WholeRows) (text : List ℕ) (verdict other : Checked) → IsWithinLimits rows → IsVerdict rows text verdict → IsVerdict rows text other → verdict ≡ other)
+      → (one other : Status) → Gives command text proof one → Gives command text proof other → one ≡ other
+  one_checked one_verdict one other a b =
+      one_text command.reading text (Checks proof) (λ one other. one ≡ other) (λ one other same. same) (λ model. one_check proof model (one_verdict (rows_of model) proof)) one other a.0 b.0
+      (check_verdict one a) (check_verdict other b)
+
+  pub checks : (model : Model) (status : Status) → StatesSmall command.reading text model → length proof ≤ most_proof_bytes → Gives command text proof status → IsChecked model proof status
+  checks model status small short gives = checked_small proof model status gives.0 small.small short (model_of command.reading text (Checks proof) model status gives.0 small (check_verdict status gives))

@@ -1,6 +1,6 @@
 -- What the texts of MODEL and PROOF come to: the status that they give, and what is written then.
 use Rattle.std.specs.Prelude.{◌≡◌, ◌⊎◌, ℕ, ◌+◌, ◌*◌, ◌^◌, ◌<◌, ◌≤◌, List, [], ◌∷◌, length, ℤ, codes, Option, Some, None, option_map, IfSome, Ok, Err}
-use Rattle.whole_rows.specs.WholeRows.{WholeRows, cut_value}
+use Rattle.whole_rows.specs.WholeRows.{WholeRows, IsWithinLimits, cut_value}
 use Rattle.proof_tree.specs.declared.tree.Tree.{Tree}
 use Rattle.proof_tree.specs.declared.tree.PartTree.{PartTree}
 use Rattle.proof_tree.specs.Trees.{Holds}
@@ -102,6 +102,7 @@ IsTrueFor model claims.Open = ⊥
 -- No part is too large, and the proof is accepted with its claim. So what it claims is true of the model.
 pub record AcceptsProof (proof : List ℕ) (model : Model) (out : Output) : Type 0 where
   pub small : HasNoLargePart model
+  pub limits : IsWithinLimits (rows_of model)
   pub short : length proof ≤ most_proof_bytes
   pub claim : Claim
   pub accepted : Accepts (rows_of model) proof claim
@@ -111,6 +112,7 @@ pub record AcceptsProof (proof : List ℕ) (model : Model) (out : Output) : Type
 -- no part is too large, and the proof is refused at this line
 pub record RejectsProof (proof : List ℕ) (model : Model) (reject : Reject) (out : Output) : Type 0 where
   pub small : HasNoLargePart model
+  pub limits : IsWithinLimits (rows_of model)
   pub short : length proof ≤ most_proof_bytes
   pub refused : RejectsAt (rows_of model) proof reject
   pub report : out ≡ only (reject_line reject ∷ [])

@@ -30,6 +30,7 @@ returns-in-Accepted c = λ model same has.
     replied_by (Checks text model) Accepted (accepted_lines (value_at model) claim) c.accepted_reply.result
     (record {
       small = has.small;
+      limits = limits;
       short = c.if-text-gt-MOST_PROOF_BYTES.false;
       claim = claim;
       accepted = accepted;
@@ -44,6 +45,7 @@ returns-in-Rejected c = λ model same has.
     let reject = c.in-Rejected.reject in
     let verdict = subst (IsVerdict c.whole.result.now text) c.in-Rejected.is c.in_ok-claim.ensures in
     let refused : RejectsAt (rows_of model) text reject = subst (λ (whole : WholeRows). RejectsAt whole text reject) (c.whole.ensures ∙ ap (λ (rows : IntegerRows). rows.whole) same) verdict in
+    let limits : IsWithinLimits (rows_of model) = subst IsWithinLimits (ap (λ (rows : IntegerRows). rows.whole) same) c.columns-columns.ensures.limits in
     replied_by (Checks text model) (Rejected reject) (reject_line reject ∷ []) c.reject_reply.result
-    (record { small = has.small; short = c.if-text-gt-MOST_PROOF_BYTES.false; refused = refused; report = refl })
+    (record { small = has.small; limits = limits; short = c.if-text-gt-MOST_PROOF_BYTES.false; refused = refused; report = refl })
     c.reject_reply.ensures.status c.reject_reply.ensures.report c.reject_reply.ensures.proof

@@ -1,4 +1,4 @@
-use Rattle.solve_cli.proofs.VerdictLaws.{one_given, ends, decides, checks}
+use Rattle.solve_cli.proofs.VerdictLaws.{one_given, one_checked, ends, decides, checks}
 use Rattle.solve_cli.proofs.verdict_law.one_status_is_given.Goals as goal
 
 pub returns-clause-one : goal.returns-clause-one
@@ -11,4 +11,7 @@ pub returns-clause-enough : goal.returns-clause-enough
 returns-clause-enough c = λ command nodes text proof model status solves small enough gives. decides command nodes solves text proof model status small enough gives
 
 pub returns-clause-checks : goal.returns-clause-checks
-returns-clause-checks c = λ command text proof model status task small short gives. checks command text proof model status task small short gives
+returns-clause-checks c = λ command text proof model status task small short gives. checks command task text proof model status small short gives
+
+pub returns-clause-one_check : goal.returns-clause-one_check
+returns-clause-one_check c = λ command text proof one other task a b. one_checked command task text proof c.one_verdict.ensures one other a b
