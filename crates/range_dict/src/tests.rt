@@ -6,7 +6,7 @@ ghost use Rattle.farkas_rows.specs.Refutes.{HasForms, IsDense};
 use crate::{Extreme, Met, RangeDict, RangeStop, Vertex};
 use farkas_rows::{End, Path, Slice, refutes};
 use node_point::NodePoint;
-use spaces::Form;
+use spaces::{Form, Original};
 use std::alloc::Global;
 use std::test::Fail;
 use whole_rows::{Bounds, DenseRows};
@@ -48,64 +48,144 @@ fn market(alloc: Global, rows: usize, columns: usize, seed: u64) -> Result<Dense
 }
 
 /// Whether a vertex is a point of the node.
-fn is_point(rows: &DenseRows, path: &Path, cut: Option<i128>, vertex: Vertex) -> bool
+fn is_point(rows: &DenseRows, path: &Path, vertex: Vertex) -> bool
     requires { HasForms (length rows.now.box) path.now }
 {
     let Vertex {
         numerators,
         denominator,
     } = vertex;
-    NodePoint::of(rows, path, cut, numerators, denominator).is_some()
+    NodePoint::of(rows, path, None, numerators, denominator).is_some()
 }
 
-/// The value of an extreme, as a numerator and a denominator, where both its checks pass.
-fn checked_value<'a>(
+/// Whether the answer is that there is no point, and its check passes.
+fn is_empty(rows: &DenseRows, path: &Path, met: Met) -> bool
+    requires { HasForms (length rows.now.box) path.now }
+{
+    match met {
+        Met::Point(_) => false,
+        Met::Empty(line) => refutes(rows, path, &End::Absent, &line),
+    }
+}
+
+/// The dictionary of the root, where it finds a point that passes its check.
+fn root(alloc: Global, rows: &DenseRows) -> Result<Option<RangeDict>, RangeStop> {
+    let mut dict = RangeDict::of(alloc, rows, None)?;
+    let Met::Point(vertex) = dict.meet(alloc)? else {
+        return Ok(None);
+    };
+    if is_point(rows, &Path::new(alloc), vertex) {
+        Ok(Some(dict))
+    } else {
+        Ok(None)
+    }
+}
+
+/// Whether the extreme has the value of this fraction, and both its checks pass.
+fn has_value<'a>(
     rows: &'a DenseRows,
-    path: &'a Path,
     end: &'a End<'a>,
+    alloc: Global,
     extreme: Extreme,
-) -> Option<(i128, i128)>
-    requires path { HasForms (length rows.now.box) path.now }
-    requires end { IfSome (inequality_of end.now) (IsDense (length rows.now.box)) }
+    fraction: (i128, i128),
+) -> bool
+    requires { IfSome (inequality_of end.now) (IsDense (length rows.now.box)) }
 {
     let Extreme {
         vertex,
         value,
         line,
     } = extreme;
-    let denominator = vertex.denominator;
-    if is_point(rows, path, None, vertex) && refutes(rows, path, end, &line) {
-        Some((value, denominator))
-    } else {
-        None
+    let (numerator, denominator) = fraction;
+    let path = Path::new(alloc);
+    let left = value.checked_mul(denominator);
+    let right = vertex.denominator.checked_mul(numerator);
+    left.is_some()
+        && left == right
+        && refutes(rows, &path, end, &line)
+        && is_point(rows, &path, vertex)
+}
+
+/// Whether the least value of a form is this fraction, and nothing lies below `lo`.
+fn is_least(
+    alloc: Global,
+    rows: &DenseRows,
+    form: &Form<Original>,
+    lo: i128,
+    fraction: (i128, i128),
+) -> Result<bool, RangeStop> {
+    let Some(mut dict) = root(alloc, rows)? else {
+        return Ok(false);
+    };
+    let extreme = dict.least(alloc, form.items())?;
+    if form.items().len() != rows.columns() {
+        return Ok(false);
     }
+    let end = End::Below { form, lo };
+    Ok(has_value(rows, &end, alloc, extreme, fraction))
+}
+
+/// Whether the greatest value of a form is this fraction, and nothing lies from `from` on.
+fn is_greatest(
+    alloc: Global,
+    rows: &DenseRows,
+    form: &Form<Original>,
+    from: i128,
+    fraction: (i128, i128),
+) -> Result<bool, RangeStop> {
+    let Some(mut dict) = root(alloc, rows)? else {
+        return Ok(false);
+    };
+    let extreme = dict.greatest(alloc, form.items())?;
+    if form.items().len() != rows.columns() {
+        return Ok(false);
+    }
+    let end = End::Above { form, from };
+    Ok(has_value(rows, &end, alloc, extreme, fraction))
+}
+
+/// Whether no point has this value of the form.
+fn is_empty_slice(
+    alloc: Global,
+    rows: &DenseRows,
+    form: Form<Original>,
+    beta: i128,
+) -> Result<bool, RangeStop> {
+    let dict = RangeDict::of(alloc, rows, None)?;
+    let mut child = dict.child(alloc, form.items(), beta)?;
+    if form.items().len() != rows.columns() {
+        return Ok(false);
+    }
+    let mut path = Path::new(alloc);
+    path.push(Slice { form, beta })?;
+    let met = child.meet(alloc)?;
+    Ok(is_empty(rows, &path, met))
+}
+
+/// Whether no point lies below a cut that is set after another one.
+fn is_empty_below(
+    alloc: Global,
+    rows: &DenseRows,
+    first: i128,
+    cut: i128,
+) -> Result<bool, RangeStop> {
+    let mut dict = RangeDict::of(alloc, rows, Some(first))?;
+    if let Met::Empty(_) = dict.meet(alloc)? {
+        return Ok(false);
+    }
+    dict.set_cut(cut)?;
+    let met = dict.meet(alloc)?;
+    Ok(is_empty(rows, &Path::new(alloc), met))
 }
 
 #[test]
 fn two_constraints_at_their_corners(rt: HostRuntime) -> Result<(), Fail> {
     let alloc = rt.alloc();
     let rows = two_constraints(alloc)?;
-    let path = Path::new(alloc);
-    let mut dict = RangeDict::of(alloc, &rows, None)?;
     let form = Form::of(vec![in alloc; -5, -4]?);
-    assert_eq!(rt; form.items().len(), rows.columns());
-    assert!(rt; matches!(dict.meet(alloc)?, Met::Point(_)));
     // At (3, 3/2) and at (0, 0).
-    let least = dict.least(alloc, form.items())?;
-    let below = End::Below {
-        form: &form,
-        lo: -21,
-    };
-    let (value, denominator) = checked_value(&rows, &path, &below, least).ok_or("no least")?;
-    assert_eq!(rt; Some(value), denominator.checked_mul(-21));
-    let greatest = dict.greatest(alloc, form.items())?;
-    let above = End::Above {
-        form: &form,
-        from: 1,
-    };
-    let (value, _) = checked_value(&rows, &path, &above, greatest).ok_or("no greatest")?;
-    assert_eq!(rt; value, 0);
-    assert!(rt; dict.pivots() > 0);
+    assert!(rt; is_least(alloc, &rows, &form, -21, (-21, 1))?);
+    assert!(rt; is_greatest(alloc, &rows, &form, 1, (0, 1))?);
     Ok(())
 }
 
@@ -113,26 +193,12 @@ fn two_constraints_at_their_corners(rt: HostRuntime) -> Result<(), Fail> {
 fn cuts_and_slices_leave_no_point(rt: HostRuntime) -> Result<(), Fail> {
     let alloc = rt.alloc();
     let rows = two_constraints(alloc)?;
-    let mut path = Path::new(alloc);
-    let mut dict = RangeDict::of(alloc, &rows, Some(-20))?;
-    let Met::Point(vertex) = dict.meet(alloc)? else {
-        return Err("no point below the cut")?;
-    };
-    assert!(rt; is_point(&rows, &path, Some(-20), vertex));
-    dict.set_cut(-21)?;
-    let Met::Empty(line) = dict.meet(alloc)? else {
-        return Err("a point below the least cost")?;
-    };
-    assert!(rt; refutes(&rows, &path, &End::Absent, &line));
-    // 2x - y = 13 is out of reach.
+    assert!(rt; is_empty_below(alloc, &rows, -20, -21)?);
+    assert!(rt; !is_empty_below(alloc, &rows, -10, -20)?);
     let form = Form::of(vec![in alloc; 2, -1]?);
-    assert_eq!(rt; form.items().len(), rows.columns());
-    let mut child = RangeDict::of(alloc, &rows, None)?.child(alloc, form.items(), 13)?;
-    path.push(Slice { form, beta: 13 })?;
-    let Met::Empty(line) = child.meet(alloc)? else {
-        return Err("a point out of reach")?;
-    };
-    assert!(rt; refutes(&rows, &path, &End::Absent, &line));
+    assert!(rt; is_empty_slice(alloc, &rows, form, 13)?);
+    let form = Form::of(vec![in alloc; 2, -1]?);
+    assert!(rt; !is_empty_slice(alloc, &rows, form, 4)?);
     Ok(())
 }
 
@@ -140,40 +206,10 @@ fn cuts_and_slices_leave_no_point(rt: HostRuntime) -> Result<(), Fail> {
 fn a_market_as_the_exact_simplex_has_it(rt: HostRuntime) -> Result<(), Fail> {
     let alloc = rt.alloc();
     let rows = market(alloc, 3, 12, 7919)?;
-    let path = Path::new(alloc);
-    let mut dict = RangeDict::of(alloc, &rows, None)?;
-    let Met::Point(vertex) = dict.meet(alloc)? else {
-        return Err("no point")?;
-    };
-    assert!(rt; is_point(&rows, &path, None, vertex));
     let form = Form::of(vec![in alloc; 1, -2, 0, 2, -1, 1, 0, -2, 2, 1, -1, 0]?);
-    assert_eq!(rt; form.items().len(), rows.columns());
-    // The exact simplex answers -1595375/271318 and 1866735/271318.
-    let least = dict.least(alloc, form.items())?;
-    let below = End::Below {
-        form: &form,
-        lo: -5,
-    };
-    let (value, denominator) = checked_value(&rows, &path, &below, least).ok_or("no least")?;
-    assert_eq!(rt;
-        value.checked_mul(271318),
-        denominator.checked_mul(-1595375)
-    );
-    let greatest = dict.greatest(alloc, form.items())?;
-    let above = End::Above {
-        form: &form,
-        from: 7,
-    };
-    let (value, denominator) = checked_value(&rows, &path, &above, greatest).ok_or("no greatest")?;
-    assert_eq!(rt; value.checked_mul(271318), denominator.checked_mul(1866735));
-    // No whole value lies below -5, so that slice is empty.
-    let mut child = dict.child(alloc, form.items(), -6)?;
-    let mut path = path;
-    path.push(Slice { form, beta: -6 })?;
-    let Met::Empty(line) = child.meet(alloc)? else {
-        return Err("a point below the least value")?;
-    };
-    assert!(rt; refutes(&rows, &path, &End::Absent, &line));
+    assert!(rt; is_least(alloc, &rows, &form, -5, (-1595375, 271318))?);
+    assert!(rt; is_greatest(alloc, &rows, &form, 7, (1866735, 271318))?);
+    assert!(rt; is_empty_slice(alloc, &rows, form, -6)?);
     Ok(())
 }
 
@@ -189,5 +225,6 @@ fn what_is_wide_is_given_up(rt: HostRuntime) -> Result<(), Fail> {
     let rows = two_constraints(alloc)?;
     let dict = RangeDict::of(alloc, &rows, None)?;
     assert!(rt; matches!(dict.child(alloc, &[1], 0), Err(RangeStop::Wide)));
+    assert_eq!(rt; dict.pivots(), 0);
     Ok(())
 }
