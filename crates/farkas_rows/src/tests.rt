@@ -1,5 +1,5 @@
 //! Lines over small rows, with sums found by hand.
-use crate::{CutUse, End, Line, Path, Slice, Use, Uses, Weight, refutes, refutes_parts, weigh};
+use crate::{CutUse, End, Path, Slice, Use, refutes_parts};
 use spaces::Form;
 use std::alloc::Global;
 use std::test::Fail;
@@ -52,22 +52,21 @@ fn lines_below_a_split(rt: HostRuntime) -> Result<(), Fail> {
 #[test]
 fn lines_on_slices(rt: HostRuntime) -> Result<(), Fail> {
     let rows = two_constraints(rt.alloc())?;
-    let mut path = Path::new(rt.alloc());
     let form = Form::of(vec![in rt.alloc(); 1, 1]?);
     assert_eq!(rt; form.items().len(), rows.columns());
+    let path = [Slice { form, beta: 7 }];
     // (-x - y <= -7) + (x + 2y <= 6) + (-y <= 0)
+    let items = [use_of(2, 1), use_of(7, 1), use_of(9, 1)];
+    let refuted = refutes_parts(&rows, &path, &End::Absent, &None, &items);
+    assert!(rt; refuted);
+    Ok(())
+}
+
+#[test]
+fn paths_grow(rt: HostRuntime) -> Result<(), Fail> {
+    let mut path = Path::new(rt.alloc());
+    let form = Form::of(vec![in rt.alloc(); 1, 1]?);
     path.push(Slice { form, beta: 7 })?;
     assert_eq!(rt; path.items().len(), 1);
-    let items = [use_of(2, 1), use_of(7, 1), use_of(9, 1)];
-    let line = Line {
-        cut: None,
-        items: Uses::from_vec(items.to_vec(rt.alloc())?),
-    };
-    let refuted = refutes(&rows, &path, &End::Absent, &line);
-    assert!(rt; refuted);
-    assert_eq!(rt;
-        weigh(&rows, &path, &End::Absent, &line),
-        Weight::Within(9 + 9 + 1)
-    );
     Ok(())
 }
