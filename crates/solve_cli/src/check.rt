@@ -42,11 +42,7 @@ pub(crate) fn check_text(alloc: Global, rows: &IntRows, text: &[u8]) -> Result<R
     ensures { (model : Model) → rows.now ≡ integer_rows model → HasRows model → IfOk result (Replies (Checks text.now model)) }
 {
     if text.len() > MOST_PROOF_BYTES {
-        return line_reply(
-            alloc,
-            Status::TooLong(Input::ProofText),
-            b"LIMIT PROOF",
-        );
+        return line_reply(alloc, Status::TooLong(Input::ProofText), b"LIMIT PROOF");
     }
     let columns = rows.columns();
     prove!(columns <= 256);

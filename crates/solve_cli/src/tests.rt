@@ -674,7 +674,11 @@ fn a_check_takes_the_model_and_then_the_proof(rt: HostRuntime) -> Result<(), Fai
     ] {
         let (ended, said) = check_says(alloc, model, b"SLICER 1\n", failing)?;
         assert_eq!(rt; ended, code, "where call {failing} fails");
-        assert_eq!(rt; said.as_slice(), report.as_bytes(), "where call {failing} fails");
+        assert_eq!(rt;
+            said.as_slice(),
+            report.as_bytes(),
+            "where call {failing} fails"
+        );
     }
     Ok(())
 }
@@ -686,7 +690,13 @@ const WORKED_PROOF: &str =
 fn proofs_are_checked(rt: HostRuntime) -> Result<(), Fail> {
     let alloc = rt.alloc();
     for (model, old, new, code, report) in [
-        (TWO_CONSTRAINTS, "DONE", "DONE", 0, "ACCEPTED OPTIMAL\nVALUE -20\n"),
+        (
+            TWO_CONSTRAINTS,
+            "DONE",
+            "DONE",
+            0,
+            "ACCEPTED OPTIMAL\nVALUE -20\n",
+        ),
         (TWO_CONSTRAINTS, "0:5", "0:6", 9, "REJECTED Refute 4\n"),
         (TWO_CONSTRAINTS, "0:5", "0:05", 9, "REJECTED Number 4\n"),
         (TWO_CONSTRAINTS, "0:5", "0:0", 9, "REJECTED Number 4\n"),
@@ -710,7 +720,13 @@ fn proofs_are_checked(rt: HostRuntime) -> Result<(), Fail> {
             "REJECTED Record 5\n",
         ),
         (TWO_CONSTRAINTS, "DONE\n", "", 9, "REJECTED Short 6\n"),
-        (TWO_CONSTRAINTS, "DONE\n", "DONE\n\n", 9, "REJECTED Tail 7\n"),
+        (
+            TWO_CONSTRAINTS,
+            "DONE\n",
+            "DONE\n\n",
+            9,
+            "REJECTED Tail 7\n",
+        ),
         (TWO_COINS, "DONE", "DONE", 9, "REJECTED Point 2\n"),
     ] {
         let proof = WORKED_PROOF.replace(alloc, old, new)?;
@@ -738,7 +754,11 @@ fn a_proof_that_is_put_is_accepted(rt: HostRuntime) -> Result<(), Fail> {
         desk.add_input("m", model.as_bytes())?;
         run(alloc, &words(alloc, "solve m p")?, &mut desk);
         let (_, said) = check_says(alloc, model, desk.written("p"), 0)?;
-        assert_eq!(rt; said.as_slice(), report.as_bytes(), "to the proof of {model}");
+        assert_eq!(rt;
+            said.as_slice(),
+            report.as_bytes(),
+            "to the proof of {model}"
+        );
     }
     Ok(())
 }
