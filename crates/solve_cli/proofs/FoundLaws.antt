@@ -1,9 +1,9 @@
 -- What a search found, as what the model comes to.
-use Rattle.std.proofs.Common.{◌≡◌, ℕ, ◌+◌, ◌*◌, ◌^◌, ◌<◌, ◌≤◌, arith, ℤ, true, List, length, refl, sym, ap, subst, ◌∙◌}
-use Rattle.std.specs.Prelude.{◌↔◌, Option, Some, None, IfSome, codes}
+use Rattle.std.proofs.Common.{◌≡◌, ℕ, ◌+◌, ◌*◌, ◌^◌, ◌<◌, ◌≤◌, arith, ℤ, true, List, length, refl, ap, subst, ◌∙◌}
+use Rattle.std.specs.Prelude.{Option, Some, None, codes}
 use Rattle.std.proofs.lemmas.List.{length-map}
 use Rattle.exact_math.specs.Rational.{ℚ}
-use Rattle.whole_rows.specs.WholeRows.{Meets, HasLeastCutValue, IsWithinLimits}
+use Rattle.whole_rows.specs.WholeRows.{IsWithinLimits}
 use Rattle.proof_tree.specs.declared.tree.Tree.{Tree}
 use Rattle.proof_tree.specs.declared.tree.PartTree.{PartTree}
 use Rattle.proof_tree.specs.Counts.{records, plain_splits, plain_splits_of_part, records_of_part}
@@ -12,8 +12,7 @@ use Rattle.proof_tree.specs.Found.{IsDone, IsSpent}
 use Rattle.plain_slices.specs.PlainMoves.{IsPlainAnswer}
 use Rattle.int_model.specs.declared.model.Model.{Model}
 use Rattle.int_model.specs.IntegerRows.{rounded_bounds}
-use Rattle.int_model.specs.Points.{IsPoint, IsBest, value_at}
-use Rattle.int_model.specs.Large.{HasNoLargePart}
+use Rattle.int_model.specs.Points.{value_at}
 use Rattle.proof_text.specs.declared.claim.Claim.TheVariants as claims
 use Rattle.proof_text.specs.Spelling.{proof_text, part_text}
 use Rattle.tree_checker.specs.Written.{written_accepted}

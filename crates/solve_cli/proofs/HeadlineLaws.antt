@@ -1,13 +1,11 @@
 -- What an answer says of the model that the text of MODEL states.
-use Rattle.std.proofs.Common.{◌≡◌, ℕ, List, Option, Some, refl, sym, ap, subst, ◌∙◌}
+use Rattle.std.proofs.Common.{◌≡◌, ℕ, List, Option, Some, sym, ap, subst, ◌∙◌}
 use Rattle.std.proofs.lemmas.Option.{same_Some}
 use Rattle.int_model.specs.declared.model.Model.{Model}
-use Rattle.proof_text.specs.declared.claim.Claim.TheVariants as claims
 use Rattle.tree_checker.specs.Accepts.{Accepts}
 use Rattle.solve_cli.specs.declared.status.Status.{Status}
-use Rattle.solve_cli.specs.declared.status.Status.TheVariants.{Optimal, Infeasible, Accepted, WriteFault, NoMemory}
+use Rattle.solve_cli.specs.declared.status.Status.TheVariants.{Optimal, Infeasible, Accepted}
 use Rattle.solve_cli.specs.Words.{Task, solving, checking, Job, command_of}
-use Rattle.solve_cli.specs.Report.{report_of}
 use Rattle.solve_cli.specs.Outputs.{Output}
 use Rattle.solve_cli.specs.Verdict.{rows_of, FindsBest, FindsNone, AcceptsProof, Comes, States}
 use Rattle.solve_cli.specs.Answer.{Given, Faults, Judges, Answer, SaysAll}

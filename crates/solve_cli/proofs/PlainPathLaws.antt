@@ -1,6 +1,6 @@
 -- Paths of splits of the first column that no slice fixes.
-use Rattle.std.proofs.Common.{◌≡◌, ⊎_elim, inl, inr, ℕ, ◌+◌, ◌-◌, ◌*◌, ◌^◌, ◌<◌, ◌≤◌, ℤ, pos, ◌+ℤ◌, ◌≤ℤ◌, ◌<ℤ◌, true, List, [], ◌∷◌, ◌++◌, length, refl, sym, subst, ◌∙◌, arith}
-use Rattle.std.specs.Prelude.{Option, None, Result, Ok, Err, All, IfOk, nat_abs}
+use Rattle.std.proofs.Common.{◌≡◌, ⊎_elim, inl, ℕ, ◌+◌, ◌-◌, ◌^◌, ◌<◌, ◌≤◌, ℤ, pos, ◌+ℤ◌, ◌≤ℤ◌, ◌<ℤ◌, true, List, [], ◌∷◌, ◌++◌, length, refl, subst, ◌∙◌, arith}
+use Rattle.std.specs.Prelude.{Option, Result, Ok, Err, IfOk, nat_abs}
 use Rattle.std.proofs.lemmas.Bool.{cases_lt}
 use Rattle.std.proofs.lemmas.List.{length_push, get_or_append_left}
 use Rattle.std.proofs.lemmas.List.Elements.{All-nil}
@@ -9,7 +9,6 @@ use Rattle.exact_math.specs.IntegerRing.{linear}
 use Rattle.whole_rows.specs.declared.bounds.Bounds.{Bounds}
 use Rattle.whole_rows.specs.WholeRows.{WholeRows, IsWithinLimits, bounds_at, reach, span}
 use Rattle.farkas_rows.specs.declared.path.Slice.{Slice}
-use Rattle.farkas_rows.specs.Refutes.{HasForms}
 use Rattle.proof_tree.specs.declared.tree.Cut.{Cut}
 use Rattle.proof_tree.specs.declared.tree.Move.{Move}
 use Rattle.proof_tree.specs.declared.tree.Move.TheVariants.{Close, Split, Point}

@@ -1,10 +1,10 @@
 -- Bytes that are put piece by piece, and a tree's children one after another.
-use Rattle.std.proofs.Common.{◌≡◌, ◌≤◌, ◌<◌, ◌+◌, suc, length, get_or, ℕ, List, [], ◌∷◌, ◌++◌, Option, Some, None, refl, sym, ap, ◌∙◌, append_assoc, append-nil, subst, arith, Global, drop}
+use Rattle.std.proofs.Common.{◌≡◌, ◌<◌, ◌+◌, suc, length, get_or, ℕ, List, [], ◌∷◌, ◌++◌, Option, Some, None, refl, sym, ap, ◌∙◌, append-nil, subst, arith, Global, drop}
 use Rattle.std.specs.Prelude.{option_map, Result, Ok, Err, flat_map}
 use Rattle.std.specs.declared.boxed.Box.{Box}
 use Rattle.std.proofs.lemmas.Grind.{flat_map-append}
 use Rattle.std.proofs.Math.Seq.{drop-cons}
-use Rattle.desk_io.specs.Desk.{appended, AppendsSome, Rose}
+use Rattle.desk_io.specs.Desk.{appended, Rose}
 use Rattle.desk_io.specs.AppendLaws.{appended_twice, appends_after, appends_front, appends_none}
 use Rattle.desk_io.specs.declared.desk.DeskStop.{DeskStop}
 use Rattle.desk_io.specs.declared.desk.DeskStop.TheVariants as stops

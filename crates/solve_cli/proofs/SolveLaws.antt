@@ -1,9 +1,8 @@
 -- From what became of the inputs of a command to why its status is answered, and to what was put and taken.
-use Rattle.std.proofs.Common.{◌≡◌, ◌≢◌, ◌⊎◌, [], inl, inr, ⊎_elim, ◌≤◌, ◌+◌, ℕ, ℤ, List, length, take, Option, Some, None, refl, sym, ap, ◌∙◌, subst, arith}
+use Rattle.std.proofs.Common.{◌≡◌, ◌≢◌, [], inl, inr, ⊎_elim, ◌≤◌, ℕ, ℤ, List, length, take, Option, Some, None, refl, sym, ap, ◌∙◌, subst}
 use Rattle.std.specs.Prelude.{IfSome, IfOk, OnOk, OnErr, IsErrOf, option_map, Result, Ok, Err}
 use Rattle.std.proofs.lemmas.Option.{same_Some, none-some}
-use Rattle.desk_io.specs.Desk.{fault, Rose, appended, AppendsSome, Same, SameButAt, IsKept}
-use Rattle.desk_io.specs.declared.desk.Call.TheVariants.{Take}
+use Rattle.desk_io.specs.Desk.{fault, appended, AppendsSome, Same, SameButAt, IsKept}
 use Rattle.desk_io.specs.FaultLaws.{rose_after}
 use Rattle.desk_io.specs.declared.desk.DeskStop.{DeskStop}
 use Rattle.desk_io.specs.declared.desk.DeskStop.TheVariants as stops

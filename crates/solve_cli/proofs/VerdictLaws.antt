@@ -1,10 +1,9 @@
 -- A text gives one status at most, unless the budget is spent, and which ones it may give.
-use Rattle.std.proofs.Common.{◌≡◌, ◌⊎◌, ⊎_elim, inl, inr, ℕ, ℤ, ◌≤◌, ◌<◌, List, [], length, refl, sym, ap, subst, ◌∙◌, arith}
+use Rattle.std.proofs.Common.{◌≡◌, ◌⊎◌, ⊎_elim, inl, inr, ℕ, ◌≤◌, ◌<◌, List, length, refl, sym, ap, subst, ◌∙◌, arith}
 use Rattle.std.specs.Prelude.{Result, Ok, Err}
 use Rattle.whole_rows.specs.WholeRows.{WholeRows, IsWithinLimits}
 use Rattle.int_model.specs.declared.part.Part.{Part}
 use Rattle.int_model.specs.declared.model.Model.{Model}
-use Rattle.int_model.specs.Points.{IsPoint}
 use Rattle.int_model.specs.Large.{IsFirstLarge, HasNoLargePart}
 use Rattle.int_model.specs.FirstLargeLaws.{first_large_is_one}
 use Rattle.mps_model.specs.declared.fault.TextFault.{TextFault}
@@ -19,7 +18,7 @@ use Rattle.mps_fields.specs.Lines.{most_bytes}
 use Rattle.solve_cli.specs.Words.{Reading, solving, checking, Job}
 use Rattle.solve_cli.specs.Limits.{most_proof_bytes}
 use Rattle.solve_cli.specs.Outputs.{Output}
-use Rattle.solve_cli.specs.Verdict.{rows_of, enough_nodes, Solves, Checks, Comes, States, IsStated, IsRefused, IsTooLong, Verdict}
+use Rattle.solve_cli.specs.Verdict.{rows_of, enough_nodes, Solves, Checks, Comes, IsStated, IsRefused, IsTooLong, Verdict}
 use Rattle.solve_cli.specs.Answer.{IsDecided, IsChecked, StatesSmall, SameUnlessSpent, Gives}
 
 -- ---- models

@@ -1,5 +1,5 @@
 -- What the texts of MODEL and PROOF come to: the status that they give, and what is written then.
-use Rattle.std.specs.Prelude.{◌≡◌, ◌⊎◌, ℕ, ◌+◌, ◌*◌, ◌^◌, ◌<◌, ◌≤◌, List, [], ◌∷◌, length, ℤ, codes, Option, Some, None, option_map, IfSome, Ok, Err}
+use Rattle.std.specs.Prelude.{◌≡◌, ℕ, ◌+◌, ◌*◌, ◌^◌, ◌<◌, ◌≤◌, List, [], ◌∷◌, length, ℤ, codes, Option, Some, None, option_map, IfSome, Ok, Err}
 use Rattle.whole_rows.specs.WholeRows.{WholeRows, IsWithinLimits, cut_value}
 use Rattle.proof_tree.specs.declared.tree.Tree.{Tree}
 use Rattle.proof_tree.specs.declared.tree.PartTree.{PartTree}

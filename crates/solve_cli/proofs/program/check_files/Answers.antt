@@ -1,13 +1,12 @@
-use Rattle.std.proofs.Common.{◌≡◌, ◌≢◌, ◌≤◌, ℕ, List, [], refl, sym, ap, subst, ◌∙◌, inl, inr, arith}
+use Rattle.std.proofs.Common.{◌≡◌, ℕ, List, [], refl, subst, ◌∙◌, inl, inr}
 use Rattle.std.specs.Prelude.{Option, option_map}
 use Rattle.std.proofs.lemmas.Result.{err_from_is_err_and}
 use Rattle.mps_fields.specs.Lines.{most_bytes}
 use Rattle.solve_cli.specs.Limits.{untaken}
-use Rattle.solve_cli.specs.Words.{reading, checking, Job, job}
-use Rattle.solve_cli.specs.Verdict.{IsUnfit, Verdict, Checks}
-use Rattle.solve_cli.specs.Answer.{run_given, desk_faults, Given, Faults}
-use Rattle.solve_cli.specs.Outputs.{text_of}
-use Rattle.solve_cli.specs.Solving.{output_of, IsModelTaken, IsRead, IsTried, OfInput, StatesRows, Replies}
+use Rattle.solve_cli.specs.Words.{reading, checking, job}
+use Rattle.solve_cli.specs.Verdict.{Checks}
+use Rattle.solve_cli.specs.Answer.{run_given, desk_faults}
+use Rattle.solve_cli.specs.Solving.{output_of, IsModelTaken, IsRead, IsTried, Replies}
 use Rattle.solve_cli.proofs.SpellLaws.{names_differ}
 use Rattle.solve_cli.proofs.SolveLaws.{model_reason, model_nothing, model_other, takes_model, takes_some, takes_both, proof_reason, proof_nothing, proof_other, puts_nothing, puts_none}
 use Rattle.solve_cli.proofs.program.check_files.Goals as goal

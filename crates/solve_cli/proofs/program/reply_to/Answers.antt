@@ -1,4 +1,4 @@
-use Rattle.std.proofs.Common.{rules, List, ℕ, [], ◌∷◌, refl, sym, ap, subst}
+use Rattle.std.proofs.Common.{rules, [], ◌∷◌, refl, ap, subst}
 use Rattle.std.specs.Prelude.{map, string_bytes, codes, Ok, Err}
 use Rattle.solve_cli.specs.declared.status.Status.TheVariants.{Words}
 use Rattle.solve_cli.specs.Commands.{GivesCommand}

@@ -1,5 +1,5 @@
-use Rattle.std.proofs.Common.{◌≡◌, ℕ, List, [], refl, sym, subst, ◌∙◌, inl}
-use Rattle.std.specs.Prelude.{Option, option_map, Ok, Err}
+use Rattle.std.proofs.Common.{◌≡◌, [], refl, subst, ◌∙◌, inl}
+use Rattle.std.specs.Prelude.{option_map, Ok}
 use Rattle.std.proofs.lemmas.Result.{err_from_is_err_and}
 use Rattle.mps_fields.specs.Lines.{most_bytes}
 use Rattle.solve_cli.specs.Words.{reading, solving, job}

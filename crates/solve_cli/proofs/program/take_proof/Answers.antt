@@ -1,5 +1,5 @@
 use Rattle.std.proofs.Common.{◌≡◌, ℕ, List, [], ◌∷◌, refl, sym, ap, subst, ◌∙◌}
-use Rattle.std.specs.Prelude.{IfSome, Some, Ok, Err, codes}
+use Rattle.std.specs.Prelude.{IfSome, Some, Err, codes}
 use Rattle.desk_io.specs.Desk.{fault}
 use Rattle.desk_io.specs.declared.desk.Call.TheVariants.{Take}
 use Rattle.solve_cli.specs.declared.status.Status.TheVariants.{ReadFault}

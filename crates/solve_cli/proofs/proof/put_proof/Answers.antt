@@ -1,9 +1,9 @@
-use Rattle.std.proofs.Common.{◌≡◌, List, ℕ, ◌++◌, refl, sym, ap, ◌∙◌}
-use Rattle.std.specs.Prelude.{codes, Option, Result}
+use Rattle.std.proofs.Common.{◌≡◌, ℕ, refl, ap, ◌∙◌}
+use Rattle.std.specs.Prelude.{codes, Option}
 use Rattle.desk_io.specs.Desk.{Fault}
-use Rattle.proof_text.specs.Spelling.{in_lines, head_lines, tree_lines, part_lines}
+use Rattle.proof_text.specs.Spelling.{head_lines, tree_lines, part_lines}
 use Rattle.proof_text.specs.declared.claim.Claim.TheVariants as claims
-use Rattle.solve_cli.specs.Answer.{Faults, desk_faults}
+use Rattle.solve_cli.specs.Answer.{desk_faults}
 use Rattle.solve_cli.specs.Outputs.{text_of}
 use Rattle.std.proofs.lemmas.Result.{err_from_is_err_and}
 use Rattle.solve_cli.proofs.PutLaws.{put_as, put_then, put_stopped, lines_parts}

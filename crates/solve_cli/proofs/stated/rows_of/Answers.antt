@@ -1,7 +1,7 @@
-use Rattle.std.proofs.Common.{◌≡◌, ℤ, List, [], ◌∷◌, refl, sym, ap, subst}
+use Rattle.std.proofs.Common.{◌≡◌, ℤ, List, [], ◌∷◌, refl, ap, subst}
 use Rattle.std.specs.Prelude.{◌↔◌, Ok, Err}
 use Rattle.whole_rows.specs.WholeRows.{Meets, HasLeastCutValue}
-use Rattle.int_model.specs.IntegerRows.{IntegerRows, integer_rows, value_in}
+use Rattle.int_model.specs.IntegerRows.{IntegerRows, value_in}
 use Rattle.int_model.specs.Points.{IsPoint, IsBest, value_at}
 use Rattle.int_model.specs.Large.{IsFirstLarge}
 use Rattle.solve_cli.specs.declared.status.Status.TheVariants.{Large}
