@@ -1,8 +1,10 @@
 //! A proof text, read.
 ghost use Rattle.std.specs.Prelude.{◌≡◌, ℕ, ◌+◌, ◌*◌, ◌≤◌, ◌^◌, ◌↔◌, pos, ◌≤ℤ◌, List, ◌∷◌, length, IsTrue, MatchOption, IfOk};
+ghost use Rattle.std.specs.Option.{IsSomeAnd};
 ghost use Rattle.whole_rows.specs.WholeRows.{IsWithinLimits};
 ghost use Rattle.proof_tree.specs.declared.tree.Tree.{Tree};
 ghost use Rattle.proof_text.specs.declared.claim.Claim.{Claim};
+ghost use Rattle.proof_text.specs.OneReading.{IsSameTree};
 ghost use Rattle.proof_text.specs.Printable.{Spells};
 ghost use Rattle.proof_text.specs.Reads.{SpellsTree, SpellsTrees};
 
@@ -24,12 +26,13 @@ pub struct Proof {
 }
 
 /// The claim and the tree that a text spells over these rows. None where it spells none: where its lines are not those of
-/// the grammar, a number is not in its range, or its claim is open.
+/// the grammar, a number is not in its range, or its claim is open. What is spelled has one reading.
 ///
 /// The text has at most 2 to the power 32 bytes.
 pub fn read_proof(alloc: Global, rows: &DenseRows, text: &[u8]) -> Result<Option<Proof>, NoMemory>
     requires { length text.now ≤ 2 ^ 32 }
-    ensures { IfOk result (λ read. MatchOption read ((claim : Claim) (tree : Tree) → ¬ Spells rows.now text.now claim tree) (λ proof. Spells rows.now text.now proof.claim proof.tree)) }
+    ensures read { IfOk result (λ read. MatchOption read ((claim : Claim) (tree : Tree) → ¬ Spells rows.now text.now claim tree) (λ proof. Spells rows.now text.now proof.claim proof.tree)) }
+    ensures again { (claim : Claim) (tree : Tree) → Spells rows.now text.now claim tree → IfOk result (λ read. IsSomeAnd read (λ proof. (proof.claim ≡ claim) × IsSameTree proof.tree tree)) }
 {
     let mut lines = Lines::of(text);
     let Some(claim) = read_head(alloc, rows.columns(), &mut lines)? else {

@@ -46,6 +46,7 @@ impl RangeDict {
     /// Whether the node has a rational point. One row that is outside of its range is brought back at a time, and no row that
     /// is met is lost on the way.
     pub fn meet(&mut self, alloc: Global) -> Result<Met, RangeStop> {
+        self.clear_form();
         let mut start = 0;
         let mut still = 0;
         for _step in 0..MOST_STEPS {
@@ -91,6 +92,14 @@ impl RangeDict {
             still = self.advance(column, aim, still)?;
         }
         Err(RangeStop::ManySteps)
+    }
+
+    /// Takes the last form away, so that none of its entries can leave 64 bits.
+    fn clear_form(&mut self)
+        ensures rows { vec_len self.new.basic ≡ vec_len self.old.basic }
+        ensures columns { vec_len self.new.outside ≡ vec_len self.old.outside }
+    {
+        self.table.row_mut(self.basic.len()).fill(0);
     }
 
     /// Writes a form into the last row.

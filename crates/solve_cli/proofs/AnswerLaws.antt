@@ -7,15 +7,16 @@ use Rattle.desk_io.specs.declared.desk.Call.TheVariants.{Take, Put, Say}
 use Rattle.desk_io.specs.AppendLaws.{appends_all}
 use Rattle.desk_io.specs.FaultLaws.{rose_after}
 use Rattle.solve_cli.specs.declared.status.Status.{Status}
-use Rattle.solve_cli.specs.declared.status.Status.TheVariants.{Optimal, Infeasible, Spent, Words, Text, TooLong, Large, ReadFault, WriteFault, NoMemory}
-use Rattle.solve_cli.specs.Words.{Solve, command_of}
+use Rattle.solve_cli.specs.declared.status.Status.TheVariants.{Words, ReadFault, WriteFault, NoMemory}
+use Rattle.int_model.specs.declared.model.Model.{Model}
+use Rattle.solve_cli.specs.Words.{Task, solving, checking, Job, command_of}
 use Rattle.solve_cli.specs.Report.{report_of}
-use Rattle.solve_cli.specs.Verdict.{Verdict}
-use Rattle.solve_cli.specs.Answer.{Given, Faults, JudgesText, Reason, Puts, SaysSome, Answer, IsJudged, IsCalm, KeepsFaults, FailedInWrite, TakesInput, Gives, IsComplete}
+use Rattle.solve_cli.specs.Verdict.{Checks, Comes, Verdict}
+use Rattle.solve_cli.specs.Answer.{Given, Faults, Judges, Reason, Puts, SaysSome, Answer, IsJudged, IsOfModel, IsOfProof, IsCalm, KeepsFaults, FailedInWrite, TakesInput, Gives, Tells, IsComplete}
 use Rattle.solve_cli.specs.Solving.{IsSaid, FailsInTake}
 use Rattle.solve_cli.specs.Outputs.{Output}
-use Rattle.solve_cli.proofs.VerdictLaws.{ends, decides}
-use Rattle.solve_cli.proofs.SolveLaws.{puts_same}
+use Rattle.solve_cli.proofs.VerdictLaws.{ends, decides, checks}
+use Rattle.solve_cli.proofs.SolveLaws.{verdict_on, puts_same}
 
 -- ---- the answer
 
@@ -23,17 +24,10 @@ use Rattle.solve_cli.proofs.SolveLaws.{puts_same}
 module _ (given : Given) (faults : Faults) (written : List ℕ → Option (List ℕ)) where
   all_said : (status : Status) (out : Output) (before after : Option (List ℕ)) → Reason given faults status out → Puts given out.proof written
       → after ≡ option_map (appended (report_of out.lines)) before → Answer given faults written before after status
-  all_said Optimal out before after reason put said = record { out = out; reason = reason; put = put; said = said }
-  all_said Infeasible out before after reason put said = record { out = out; reason = reason; put = put; said = said }
-  all_said Spent out before after reason put said = record { out = out; reason = reason; put = put; said = said }
-  all_said Words out before after reason put said = record { out = out; reason = reason; put = put; said = said }
-  all_said (Text fault) out before after reason put said = record { out = out; reason = reason; put = put; said = said }
-  all_said (TooLong input) out before after reason put said = record { out = out; reason = reason; put = put; said = said }
-  all_said (Large part) out before after reason put said = record { out = out; reason = reason; put = put; said = said }
-  all_said ReadFault out before after reason put said = record { out = out; reason = reason; put = put; said = said }
   all_said WriteFault out before after reason put said = absurd reason
   all_said NoMemory out before after reason put said =
       record { status = NoMemory; out = out; reason = reason; put = put; said = appends_all (report_of out.lines) before after said }
+  all_said status out before after reason put said = record { out = out; reason = reason; put = put; said = said }
 
 module _ (given : Given) (faults now : Faults) (written : List ℕ → Option (List ℕ)) (status result : Status) (out : Output) (before after : Option (List ℕ))
     (later : given.faults ≤ faults.count) (reason : Reason given faults status out) (put : Puts given out.proof written)
@@ -92,80 +86,109 @@ module _ (start between now : Faults) (status result : Status) (report : List �
 
 -- ---- the inputs
 
-judged_none : {P : Type 0} (status : Status) → (status ≡ WriteFault) ⊎ (status ≡ NoMemory) → IsJudged status → P
-judged_none status other judged = ⊎_elim (λ e. absurd (subst IsJudged e judged)) (λ e. absurd (subst IsJudged e judged)) other
+module _ (P : Status → Type 0) (fault : P WriteFault → ⊥) (memory : P NoMemory → ⊥) where
+  -- what holds of no status that tells a fault of writing or want of memory held of the status before the say
+  before_say : (report : List ℕ) (status result : Status) (old new : Faults) (before after : Option (List ℕ)) → IsSaid report status old new before after result → P result → P status
+  before_say report status result old new before after said is =
+      ⊎_elim (λ whole. subst P whole.0 is)
+      (⊎_elim (λ failed. absurd (fault (subst P failed.0 is))) (λ full. absurd (memory (subst P full.0 is))))
+      said.outcome
 
 pub takes_said : (given : Given) (status result : Status) (report : List ℕ) (faults now : Faults) (before after : Option (List ℕ)) (left left_now : List ℕ → Option (List ℕ))
     → TakesInput given left status → IsSaid report status faults now before after result → Same left left_now → TakesInput given left_now result
 takes_said given status result report faults now before after left left_now takes said same = record {
   no_command = λ none name. same name ∙ takes.no_command none name;
   others = λ command spelled name other. same name ∙ takes.others command spelled name other;
-  model = λ command spelled judged. same command.model ∙ ⊎_elim
-      (λ whole. takes.model command spelled (subst IsJudged whole.0 judged))
-      (⊎_elim (λ failed. judged_none result (inl failed.0) judged) (λ full. judged_none result (inr full.0) judged))
-      said.outcome;
+  model = λ command spelled is. same command.model ∙ takes.model command spelled (before_say IsJudged (λ h. h) (λ h. h) report status result faults now before after said is);
+  proof = λ command spelled is. same command.proof ∙ takes.proof command spelled (before_say IsOfProof (λ h. h) (λ h. h) report status result faults now before after said is);
+  untouched = λ command spelled is. same command.proof ∙ takes.untouched command spelled (before_say IsOfModel (λ h. h) (λ h. h) report status result faults now before after said is);
 }
 
 -- a status that tells no verdict wants no more than another
 pub takes_unjudged : (given : Given) (left : List ℕ → Option (List ℕ)) → TakesInput given left NoMemory → TakesInput given left WriteFault
-takes_unjudged given left takes = record { no_command = takes.no_command; others = takes.others; model = λ command spelled judged. absurd judged }
+takes_unjudged given left takes = record {
+  no_command = takes.no_command;
+  others = takes.others;
+  model = λ command spelled judged. absurd judged;
+  proof = λ command spelled judged. absurd judged;
+  untouched = λ command spelled judged. absurd judged;
+}
 
 -- ---- completeness
 
--- the verdict is on the text that the desk tells of the command's model
-module _ (given : Given) (status : Status) (out : Output) (judges : JudgesText given status out) where
+pub told_is : (left : Option (List ℕ)) (text bytes : List ℕ) → left ≡ Some bytes → IfSome left (λ l. l ≡ text) → text ≡ bytes
+told_is None text bytes e told = absurd cc
+told_is (Some left) text bytes e told = sym told ∙ same_Some left bytes e
+
+-- solving reads none of PROOF
+comes_same : (task : Task) (one other : List ℕ) (model : Model) (status : Status) (out : Output) → (task ≡ checking → one ≡ other) → Comes task one model status out → Comes task other model status out
+comes_same (solving nodes) one other model status out same comes = comes
+comes_same checking one other model status out same comes = subst (λ proof. Checks proof model status out) (same refl) comes
+
+-- the verdict is on the bytes that the desk tells
+module _ (given : Given) (status : Status) (out : Output) (judges : Judges given status out) where
   no_none : {P : Type 0} → command_of given.words ≡ None → P
   no_none none = absurd (none-some judges.command (sym none ∙ judges.spelled))
 
-  gives : (command : Solve) (text : List ℕ) → command_of given.words ≡ Some command → given.left command.model ≡ Some text → Gives command.options text status
-  gives command text spelled told =
-      let same : judges.command ≡ command = same_Some judges.command command (sym judges.spelled ∙ spelled) in
-      let at : given.left judges.command.model ≡ Some text = ap (λ (c : Solve). given.left c.model) same ∙ told in
-      let text_is : text ≡ judges.text = subst (λ t. IfSome t (λ left. left ≡ judges.text)) at judges.told in
-      (out, subst (λ (c : Solve). Verdict c.options text status out) same (subst (λ t. Verdict judges.command.options t status out) (sym text_is) judges.verdict))
+  gives_here : (text proof : List ℕ) → Tells given judges.command text proof → Gives judges.command text proof status
+  gives_here text proof tells =
+      let task = judges.command.task in
+      let here : judges.text ≡ text = told_is (given.left judges.command.model) judges.text text tells.in_model judges.told in
+      let also : task ≡ checking → judges.proof ≡ proof = λ is. told_is (given.left judges.command.proof) judges.proof proof (tells.in_proof is) judges.proof_told in (
+        out,
+        verdict_on judges.command.reading (Comes task judges.proof) (Comes task proof) text status out (λ model comes. comes_same task judges.proof proof model status out also comes)
+            (subst (λ t. Verdict judges.command.reading (Comes task judges.proof) t status out) here judges.verdict),
+      )
+
+  gives : (command : Job) (text proof : List ℕ) → Tells given command text proof → Gives command text proof status
+  gives command text proof tells =
+      let same : judges.command ≡ command = same_Some judges.command command (sym judges.spelled ∙ tells.spelled) in
+      subst (λ (c : Job). Gives c text proof status) same (gives_here text proof (subst (λ (c : Job). Tells given c text proof) (sym same) tells))
 
 -- a status with a verdict is complete
-module _ (given : Given) (now : Faults) (status : Status) (out : Output) (judges : JudgesText given status out) where
-  judged_complete : IsComplete given now status
-  judged_complete = record {
-    no_command = λ none calm. no_none given status out judges none;
-    text = λ command text spelled told calm. inl (gives given status out judges command text spelled told);
-    ends = λ command text model spelled told small calm.
-        let given_out = gives given status out judges command text spelled told in
-        ⊎_elim (λ decided. inl decided) (λ spent. inr (inl spent)) (ends command.options text model status given_out.0 small given_out.1);
-    enough = λ command text model spelled told small enough calm.
-        let given_out = gives given status out judges command text spelled told in
-        inl (decides command.options text model status given_out.0 small enough given_out.1);
-  }
+judged_complete : (given : Given) (now : Faults) (status : Status) (out : Output) → Judges given status out → IsComplete given now status
+judged_complete given now status out judges = record {
+  no_command = λ none calm. no_none given status out judges none;
+  text = λ command text proof tells calm. inl (gives given status out judges command text proof tells);
+  ends = λ command nodes text proof model solves tells small calm.
+      ⊎_elim (λ decided. inl decided) (λ spent. inr (inl spent)) (ends command nodes solves text proof model status small (gives given status out judges command text proof tells));
+  enough = λ command nodes text proof model solves tells small enough calm.
+      inl (decides command nodes solves text proof model status small enough (gives given status out judges command text proof tells));
+  checks = λ command text proof model task tells small short calm. inl (checks command task text proof model status small short (gives given status out judges command text proof tells));
+}
 
 -- and so is each where a fault rose
 faulty_complete : (given : Given) (now : Faults) (status : Status) → Rose given.faults now.count → IsComplete given now status
 faulty_complete given now status rose = record {
   no_command = λ none calm. absurd (calm rose);
-  text = λ command text spelled told calm. absurd (calm rose);
-  ends = λ command text model spelled told small calm. absurd (calm rose);
-  enough = λ command text model spelled told small enough calm. absurd (calm rose);
+  text = λ command text proof tells calm. absurd (calm rose);
+  ends = λ command nodes text proof model solves tells small calm. absurd (calm rose);
+  enough = λ command nodes text proof model solves tells small enough calm. absurd (calm rose);
+  checks = λ command text proof model task tells small short calm. absurd (calm rose);
+}
+
+wordless_complete : (given : Given) (now : Faults) → command_of given.words ≡ None → IsComplete given now Words
+wordless_complete given now none = record {
+  no_command = λ none calm. inl refl;
+  text = λ command text proof tells calm. absurd (none-some command (sym none ∙ tells.spelled));
+  ends = λ command nodes text proof model solves tells small calm. absurd (none-some command (sym none ∙ tells.spelled));
+  enough = λ command nodes text proof model solves tells small enough calm. absurd (none-some command (sym none ∙ tells.spelled));
+  checks = λ command text proof model task tells small short calm. absurd (none-some command (sym none ∙ tells.spelled));
+}
+
+memory_complete : (given : Given) (now : Faults) → IsComplete given now NoMemory
+memory_complete given now = record {
+  no_command = λ none calm. inr refl;
+  text = λ command text proof tells calm. inr refl;
+  ends = λ command nodes text proof model solves tells small calm. inr (inr refl);
+  enough = λ command nodes text proof model solves tells small enough calm. inr refl;
+  checks = λ command text proof model task tells small short calm. inr refl;
 }
 
 pub completes : (given : Given) (now : Faults) (written : List ℕ → Option (List ℕ)) (before after : Option (List ℕ)) (status : Status) → Answer given now written before after status → IsComplete given now status
-completes given now written before after Optimal answer = judged_complete given now Optimal answer.out answer.reason
-completes given now written before after Infeasible answer = judged_complete given now Infeasible answer.out answer.reason
-completes given now written before after Spent answer = judged_complete given now Spent answer.out answer.reason
-completes given now written before after (Text fault) answer = judged_complete given now (Text fault) answer.out answer.reason
-completes given now written before after (TooLong input) answer = judged_complete given now (TooLong input) answer.out answer.reason
-completes given now written before after (Large part) answer = judged_complete given now (Large part) answer.out answer.reason
-completes given now written before after Words answer = record {
-  no_command = λ none calm. inl refl;
-  text = λ command text spelled told calm. absurd (none-some command (sym answer.reason.0 ∙ spelled));
-  ends = λ command text model spelled told small calm. absurd (none-some command (sym answer.reason.0 ∙ spelled));
-  enough = λ command text model spelled told small enough calm. absurd (none-some command (sym answer.reason.0 ∙ spelled));
-}
+completes given now written before after Words answer = wordless_complete given now answer.reason.0
 completes given now written before after ReadFault answer = faulty_complete given now ReadFault answer.reason.rose
 completes given now written before after WriteFault (inl answer) = faulty_complete given now WriteFault (rose_after given.faults answer.earlier.count now.count answer.later answer.rose)
 completes given now written before after WriteFault (inr answer) = faulty_complete given now WriteFault answer.0.rose
-completes given now written before after NoMemory answer = record {
-  no_command = λ none calm. inr refl;
-  text = λ command text spelled told calm. inr refl;
-  ends = λ command text model spelled told small calm. inr (inr refl);
-  enough = λ command text model spelled told small enough calm. inr refl;
-}
+completes given now written before after NoMemory answer = memory_complete given now
+completes given now written before after status answer = judged_complete given now status answer.out answer.reason

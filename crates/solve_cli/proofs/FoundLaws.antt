@@ -1,5 +1,5 @@
 -- What a search found, as what the model comes to.
-use Rattle.std.proofs.Common.{◌≡◌, ℕ, ◌+◌, ◌*◌, ◌^◌, ◌<◌, ℤ, true, List, length, refl, sym, ap, subst, ◌∙◌}
+use Rattle.std.proofs.Common.{◌≡◌, ℕ, ◌+◌, ◌*◌, ◌^◌, ◌<◌, ◌≤◌, arith, ℤ, true, List, length, refl, sym, ap, subst, ◌∙◌}
 use Rattle.std.specs.Prelude.{◌↔◌, Option, Some, None, IfSome, codes}
 use Rattle.std.proofs.lemmas.List.{length-map}
 use Rattle.exact_math.specs.Rational.{ℚ}
@@ -17,11 +17,13 @@ use Rattle.int_model.specs.Large.{HasNoLargePart}
 use Rattle.proof_text.specs.declared.claim.Claim.TheVariants as claims
 use Rattle.proof_text.specs.Spelling.{proof_text, part_text}
 use Rattle.tree_checker.specs.Written.{written_accepted}
+use Rattle.tree_checker.specs.TextSizes.{proof_bytes}
 use Rattle.solve_cli.specs.Report.{bare_lines, found_lines}
 use Rattle.solve_cli.specs.Outputs.{with_proof}
 use Rattle.solve_cli.specs.Verdict.{rows_of, enough_nodes, FindsBest, FindsNone, SpendsBudget}
+use Rattle.solve_cli.specs.Solving.{HasRows}
 
-module _ (nodes : ℕ) (model : Model) (small : HasNoLargePart model) (points : (x : List ℤ) → IsPoint model x ↔ Meets (rows_of model) x) (limits : IsWithinLimits (rows_of model)) where
+module _ (nodes : ℕ) (model : Model) (has : HasRows model) where
   abbrev pub IsTree : Tree → Option (List ℤ) → Type 0
   IsTree = IsDone (IsPlainAnswer (rows_of model)) (rows_of model) true nodes
 
@@ -35,28 +37,30 @@ module _ (nodes : ℕ) (model : Model) (small : HasNoLargePart model) (points : 
   bare_same : (head : List ℕ) (a b c d : ℕ) → a ≡ b → c ≡ d → bare_lines head a c ≡ bare_lines head b d
   bare_same head a b c d f g = rw (f, g) refl
 
-  pub finds_best : ((x : List ℤ) → IsBest model x ↔ HasLeastCutValue (rows_of model) x) → (tree : Tree) (point : List ℤ) (value : ℚ) (a b : ℕ) → IsTree tree (Some point)
+  pub finds_best : IsWithinLimits (rows_of model) → nodes ≤ 1000 → (tree : Tree) (point : List ℤ) (value : ℚ) (a b : ℕ) → IsTree tree (Some point)
       → value ≡ value_at model point → a ≡ records tree → b ≡ plain_splits tree → FindsBest nodes model (with_proof (found_lines (codes "OPTIMAL") value model.columns point a b) (proof_text (claims.Optimal point) tree))
-  finds_best bests tree point value a b done is_value is_a is_b = record {
-    small = small;
+  finds_best limits few tree point value a b done is_value is_a is_b = record {
+    small = has.small;
     point = point;
-    best = (bests point).1 done.least;
+    best = (has.best point).1 done.least;
     tree = tree;
     shown = done.holds;
     within = done.counted;
     report = ap (λ lines. with_proof lines (proof_text (claims.Optimal point) tree)) (found_same (codes "OPTIMAL") value (value_at model point) point a (records tree) b (plain_splits tree) is_value is_a is_b);
     accepted = written_accepted (rows_of model) (claims.Optimal point) tree limits done.known done.holds;
+    short = omega (arith, few, done.counted, proof_bytes (rows_of model) (claims.Optimal point) tree limits done.known done.holds);
   }
 
-  pub finds_none : (tree : Tree) (a b : ℕ) → IsTree tree None → a ≡ records tree → b ≡ plain_splits tree → FindsNone nodes model (with_proof (bare_lines (codes "INFEASIBLE") a b) (proof_text claims.Infeasible tree))
-  finds_none tree a b done is_a is_b = record {
-    small = small;
-    none = λ x point. done.least x ((points x).0 point);
+  pub finds_none : IsWithinLimits (rows_of model) → nodes ≤ 1000 → (tree : Tree) (a b : ℕ) → IsTree tree None → a ≡ records tree → b ≡ plain_splits tree → FindsNone nodes model (with_proof (bare_lines (codes "INFEASIBLE") a b) (proof_text claims.Infeasible tree))
+  finds_none limits few tree a b done is_a is_b = record {
+    small = has.small;
+    none = λ x point. done.least x ((has.points x).0 point);
     tree = tree;
     shown = done.holds;
     within = done.counted;
     report = ap (λ lines. with_proof lines (proof_text claims.Infeasible tree)) (bare_same (codes "INFEASIBLE") a (records tree) b (plain_splits tree) is_a is_b);
     accepted = written_accepted (rows_of model) claims.Infeasible tree limits tt done.holds;
+    short = omega (arith, few, done.counted, proof_bytes (rows_of model) claims.Infeasible tree limits tt done.holds);
   }
 
   few_nodes : nodes < (widest (rows_of model).box + 2) ^ (2 * length (rows_of model).box) → nodes < enough_nodes model
@@ -65,9 +69,9 @@ module _ (nodes : ℕ) (model : Model) (small : HasNoLargePart model) (points : 
   pub spends_with : (part : PartTree) (point : List ℤ) (value : ℚ) (a b : ℕ) → IsPart part (Some point) → value ≡ value_at model point → a ≡ records_of_part part → b ≡ plain_splits_of_part part
       → SpendsBudget nodes model (with_proof (found_lines (codes "SPENT") value model.columns point a b) (part_text part))
   spends_with part point value a b spent is_value is_a is_b = record {
-    small = small;
+    small = has.small;
     best = Some point;
-    known = (points point).1 spent.known;
+    known = (has.points point).1 spent.known;
     part = part;
     shown = spent.holds;
     counted = spent.counted;
@@ -78,7 +82,7 @@ module _ (nodes : ℕ) (model : Model) (small : HasNoLargePart model) (points : 
 
   pub spends_without : (part : PartTree) (a b : ℕ) → IsPart part None → a ≡ records_of_part part → b ≡ plain_splits_of_part part → SpendsBudget nodes model (with_proof (bare_lines (codes "SPENT") a b) (part_text part))
   spends_without part a b spent is_a is_b = record {
-    small = small;
+    small = has.small;
     best = None;
     known = tt;
     part = part;

@@ -4,9 +4,12 @@ pub mod SpellLaws
 pub mod WordLaws
 pub mod PointLaws
 pub mod TakeLaws
+pub mod InputLaws
 pub mod PutLaws
 pub mod AnswerLaws
 pub mod SolveLaws
 pub mod VerdictLaws
+pub mod HeadlineLaws
 pub mod PlainPathLaws
 pub mod FoundLaws
+pub mod CheckLaws

@@ -1,6 +1,6 @@
 -- Words are read as a command exactly where they are that command written down.
-use Rattle.std.proofs.Common.{◌≡◌, ◌-◌, ℕ, ℤ, pos, negsuc, ◌≤◌, ◌≤ℤ◌, Bool, true, false, cond, List, [], ◌∷◌, ◌++◌, length, take, drop, Option, Some, None, refl, sym, ap, ◌∙◌, subst, arith, take-append-drop}
-use Rattle.std.specs.Prelude.{All, IfSome, option_map, option_and_then, unwrap_or, codes, bytes_eq, flat_map, decimal}
+use Rattle.std.proofs.Common.{◌≡◌, ◌≢◌, ◌-◌, ℕ, ℤ, pos, negsuc, ◌≤◌, ◌≤ℤ◌, Bool, true, false, cond, List, [], ◌∷◌, ◌++◌, length, take, drop, Option, Some, None, refl, sym, ap, ◌∙◌, subst, arith, take-append-drop}
+use Rattle.std.specs.Prelude.{◌&&◌, not, All, IfSome, option_map, option_and_then, unwrap_or, is_some, if◌then◌else◌, codes, bytes_eq, flat_map, decimal}
 use Rattle.std.proofs.lemmas.Bool.{cond-true}
 use Rattle.std.proofs.lemmas.Int.{ints}
 use Rattle.std.proofs.lemmas.List.{length-append, take_at, drop_at}
@@ -14,7 +14,9 @@ use Rattle.mps_model.specs.declared.layout.Layout.TheVariants as Layouts
 use Rattle.solve_cli.specs.declared.words.SolveOption.{SolveOption}
 use Rattle.solve_cli.specs.declared.words.SolveOption.TheVariants.{Fixed, Upper, Nodes}
 use Rattle.solve_cli.specs.declared.words.Chosen.{Chosen}
-use Rattle.solve_cli.specs.Words.{Options, number_within, most_upper, most_nodes, valued_option_of, chosen_options, options_of, option_words, IsOption, settled, with_fixed, with_upper, with_nodes, with_option, none_chosen, settled_options, named, are_file_names, Solve, solve_of, command_of, Spells}
+use Rattle.solve_cli.specs.declared.words.Files.{Files}
+use Rattle.solve_cli.specs.FileNames.{is_file_name}
+use Rattle.solve_cli.specs.Words.{Reading, reading, Task, solving, checking, Job, job, number_within, most_upper, most_nodes, valued_option_of, options_of, option_words, IsOption, settled, with_fixed, with_upper, with_nodes, with_option, none_chosen, settled_options, named, are_file_names, files_of, solve_of, check_of, command_of, task_word, HasBudget, Spells}
 use Rattle.solve_cli.proofs.NumberSpelling.{number_spelled, spelled_number}
 
 -- ---- steps of options
@@ -141,63 +143,121 @@ written_options (Nodes n ∷ options) range =
 
 -- ---- commands
 
-named_parts : (words : List (List ℕ)) (chosen : Chosen) (command : Solve) → named words chosen ≡ Some command
-    → (words ≡ command.model ∷ command.proof ∷ []) × (command.options ≡ chosen_options chosen) × (are_file_names command.model command.proof ≡ true)
-named_parts [] chosen command e = absurd cc
-named_parts (one ∷ []) chosen command e = absurd cc
-named_parts (model ∷ proof ∷ []) chosen command e =
-    let told = when_true (are_file_names model proof) (Some (record { options = chosen_options chosen; model = model; proof = proof })) command e in
-    subst (λ (c : Solve). (model ∷ proof ∷ [] ≡ c.model ∷ c.proof ∷ []) × (c.options ≡ chosen_options chosen) × (are_file_names c.model c.proof ≡ true))
-    (same_Some (record { options = chosen_options chosen; model = model; proof = proof }) command told.1) (refl, refl, told.0)
-named_parts (one ∷ two ∷ three ∷ words) chosen command e = absurd cc
+named_parts : (words : List (List ℕ)) (chosen : Chosen) (files : Files) → named words chosen ≡ Some files
+    → (words ≡ files.model ∷ files.proof ∷ []) × (files.chosen ≡ chosen) × (are_file_names files.model files.proof ≡ true)
+named_parts [] chosen files e = absurd cc
+named_parts (one ∷ []) chosen files e = absurd cc
+named_parts (model ∷ proof ∷ []) chosen files e =
+    let told = when_true (are_file_names model proof) (Some (record { chosen = chosen; model = model; proof = proof })) files e in
+    subst (λ (f : Files). (model ∷ proof ∷ [] ≡ f.model ∷ f.proof ∷ []) × (f.chosen ≡ chosen) × (are_file_names f.model f.proof ≡ true))
+    (same_Some (record { chosen = chosen; model = model; proof = proof }) files told.1) (refl, refl, told.0)
+named_parts (one ∷ two ∷ three ∷ words) chosen files e = absurd cc
 
-solve_spelled : (words : List (List ℕ)) (command : Solve) → solve_of words ≡ Some command → Spells (codes "solve" ∷ words) command
-solve_spelled words command e =
+-- options in front of two names are written down
+record SpellsFiles (words : List (List ℕ)) (files : Files) : Type 0 where
+  options : List SolveOption
+  in_range : All IsOption options
+  once : settled none_chosen options ≡ Some files.chosen
+  names : are_file_names files.model files.proof ≡ true
+  spelled : words ≡ flat_map option_words options ++ files.model ∷ files.proof ∷ []
+
+files_spelled : (words : List (List ℕ)) (files : Files) → files_of words ≡ Some files → SpellsFiles words files
+files_spelled words files e =
     let n = length words - 2 in
-    let told = then_some (named (drop n words)) (settled_options (take n words)) command e in
+    let told = then_some (named (drop n words)) (settled_options (take n words)) files e in
     let settles = then_some (settled none_chosen) (options_of (take n words)) told.0 told.1 in
-    let names = named_parts (drop n words) told.0 command told.2 in
+    let names = named_parts (drop n words) told.0 files told.2 in
     let written = options_written (take n words) settles.0 settles.1 in
     record {
       options = settles.0;
       in_range = written.0;
-      chosen = told.0;
-      once = settles.2;
-      meant = names.1;
+      once = settles.2 ∙ ap Some (sym names.1);
       names = names.2;
-      spelled = ap (λ rest. codes "solve" ∷ rest)
-          (sym (take-append-drop n words) ∙ ap (λ front. front ++ drop n words) written.1 ∙ ap (λ last. flat_map option_words settles.0 ++ last) names.0);
+      spelled = sym (take-append-drop n words) ∙ ap (λ front. front ++ drop n words) written.1 ∙ ap (λ last. flat_map option_words settles.0 ++ last) names.0;
     }
 
-pub command_spelled : (words : List (List ℕ)) (command : Solve) → command_of words ≡ Some command → Spells words command
-command_spelled [] command e = absurd cc
-command_spelled (word ∷ words) command e =
-    let told = when_true (bytes_eq word (codes "solve")) (solve_of words) command e in
-    subst (λ w. Spells (w ∷ words) command) (sym (text_is word (codes "solve") told.0)) (solve_spelled words command told.1)
+-- a first word in front of them is a command
+spelled_with : (words : List (List ℕ)) (files : Files) (task : Task) → SpellsFiles words files → HasBudget task files.chosen.nodes
+    → Spells (task_word task ∷ words) (job task files.chosen.layout files.chosen.upper files.model files.proof)
+spelled_with words files task s budget = record {
+  options = s.options;
+  in_range = s.in_range;
+  chosen = files.chosen;
+  once = s.once;
+  meant = refl;
+  budget = budget;
+  names = s.names;
+  spelled = ap (λ rest. task_word task ∷ rest) s.spelled;
+}
 
-module _ (command : Solve) (options : List SolveOption) (range : All IsOption options) (chosen : Chosen) (once : settled none_chosen options ≡ Some chosen) (meant : command.options ≡ chosen_options chosen)
-    (names : are_file_names command.model command.proof ≡ true) where
+solve_spelled : (words : List (List ℕ)) (command : Job) → option_map solve_of (files_of words) ≡ Some command → Spells (codes "solve" ∷ words) command
+solve_spelled words command e =
+    let files = map_some solve_of (files_of words) command e in
+    subst (Spells (codes "solve" ∷ words)) files.2 (spelled_with words files.0 (solving (unwrap_or files.0.chosen.nodes 1000)) (files_spelled words files.0 files.1) refl)
+
+no_budget : (files : Files) (command : Job) (nodes : Option ℕ) → files.chosen.nodes ≡ nodes → (if is_some nodes then None else Some (job checking files.chosen.layout files.chosen.upper files.model files.proof)) ≡ Some command
+    → (files.chosen.nodes ≡ None) × (job checking files.chosen.layout files.chosen.upper files.model files.proof ≡ command)
+no_budget files command None e is = (e, same_Some (job checking files.chosen.layout files.chosen.upper files.model files.proof) command is)
+no_budget files command (Some nodes) e is = absurd cc
+
+check_spelled : (words : List (List ℕ)) (command : Job) → option_and_then check_of (files_of words) ≡ Some command → Spells (codes "check" ∷ words) command
+check_spelled words command e =
+    let files = then_some check_of (files_of words) command e in
+    let told = no_budget files.0 command files.0.chosen.nodes refl files.2 in
+    subst (Spells (codes "check" ∷ words)) told.1 (spelled_with words files.0 checking (files_spelled words files.0 files.1) told.0)
+
+pub command_spelled : (words : List (List ℕ)) (command : Job) → command_of words ≡ Some command → Spells words command
+command_spelled [] command e = absurd cc
+command_spelled (word ∷ words) command e = by (bytes_eq word (codes "solve")) (bytes_eq word (codes "check")) refl refl e
+  where
+    by : (solve check : Bool) → bytes_eq word (codes "solve") ≡ solve → bytes_eq word (codes "check") ≡ check
+        → cond solve (option_map solve_of (files_of words)) (cond check (option_and_then check_of (files_of words)) None) ≡ Some command → Spells (word ∷ words) command
+    by true check is_solve is_check e = subst (λ w. Spells (w ∷ words) command) (sym (text_is word (codes "solve") is_solve)) (solve_spelled words command e)
+    by false true is_solve is_check e = subst (λ w. Spells (w ∷ words) command) (sym (text_is word (codes "check") is_check)) (check_spelled words command e)
+    by false false is_solve is_check e = absurd cc
+
+module _ (files : Files) (options : List SolveOption) (range : All IsOption options) (once : settled none_chosen options ≡ Some files.chosen) (names : are_file_names files.model files.proof ≡ true) where
   abbrev front : List (List ℕ)
   front = flat_map option_words options
 
   abbrev last : List (List ℕ)
-  last = command.model ∷ command.proof ∷ []
+  last = files.model ∷ files.proof ∷ []
 
   count : length (front ++ last) - 2 ≡ length front
   count = omega (arith, length-append front last)
 
-  spelled_solve : solve_of (front ++ last) ≡ Some command
-  spelled_solve =
+  spelled_files : files_of (front ++ last) ≡ Some files
+  spelled_files =
       ap (λ n. option_and_then (named (drop n (front ++ last))) (settled_options (take n (front ++ last)))) count
       ∙ ap (λ words. option_and_then (named words) (settled_options (take (length front) (front ++ last)))) (drop_at front last (length front) refl)
       ∙ ap (λ words. option_and_then (named last) (settled_options words)) (take_at front last (length front) refl)
       ∙ ap (λ found. option_and_then (named last) (option_and_then (settled none_chosen) found)) (written_options options range)
       ∙ ap (option_and_then (named last)) once
-      ∙ cond-true (are_file_names command.model command.proof) (Some (record { options = chosen_options chosen; model = command.model; proof = command.proof })) None names
-      ∙ ap (λ (o : Options). Some (record { options = o; model = command.model; proof = command.proof })) (sym meant)
+      ∙ cond-true (are_file_names files.model files.proof) (Some files) None names
 
-pub spelled_command : (words : List (List ℕ)) (command : Solve) → Spells words command → command_of words ≡ Some command
-spelled_command words command s = ap command_of s.spelled ∙ spelled_solve command s.options s.in_range s.chosen s.once s.meant s.names
+module _ (command : Job) (options : List SolveOption) (range : All IsOption options) (chosen : Chosen) (once : settled none_chosen options ≡ Some chosen) (meant : command.reading ≡ reading chosen.layout chosen.upper)
+    (names : are_file_names command.model command.proof ≡ true) where
+  abbrev behind : List (List ℕ)
+  behind = flat_map option_words options ++ command.model ∷ command.proof ∷ []
+
+  found : files_of behind ≡ Some (record { chosen = chosen; model = command.model; proof = command.proof })
+  found = spelled_files (record { chosen = chosen; model = command.model; proof = command.proof }) options range once names
+
+  whole : (task : Task) → command.task ≡ task → job task chosen.layout chosen.upper command.model command.proof ≡ command
+  whole task e =
+      ap (λ (t : Task). job t chosen.layout chosen.upper command.model command.proof) (sym e)
+      ∙ ap (λ (r : Reading). record { task = command.task; reading = r; model = command.model; proof = command.proof }) (sym meant)
+
+  read_as : (task : Task) → command.task ≡ task → HasBudget task chosen.nodes → command_of (task_word task ∷ behind) ≡ Some command
+  read_as (solving nodes) e budget =
+      ap (option_map solve_of) found
+      ∙ ap (λ n. Some (job (solving n) chosen.layout chosen.upper command.model command.proof)) (sym budget) ∙ ap Some (whole (solving nodes) e)
+  read_as checking e none =
+      ap (option_and_then check_of) found
+      ∙ ap (λ (nodes : Option ℕ). if is_some nodes then None else Some (job checking chosen.layout chosen.upper command.model command.proof)) none ∙ ap Some (whole checking e)
+
+pub spelled_command : (words : List (List ℕ)) (command : Job) → Spells words command → command_of words ≡ Some command
+spelled_command words command s = ap command_of s.spelled ∙ read_as command s.options s.in_range s.chosen s.once s.meant s.names command.task refl s.budget
 
 -- ---- the numbers of a command
 
@@ -238,15 +298,39 @@ budget_range : (nodes : Option ℕ) → IfSome nodes (λ count. (1 ≤ count) ×
 budget_range None range = (omega arith, omega arith)
 budget_range (Some count) range = range
 
--- the options of a command are in their ranges
-pub record IsInRange (options : Options) : Type 0 where
-  pub upper : IfSome options.upper (λ bound. pos 0 ≤ℤ bound)
-  pub some : 1 ≤ options.nodes
-  pub few : options.nodes ≤ most_nodes
+-- a budget is from 1 to 1000
+abbrev pub IsBudget : Task → Type 0
+IsBudget (solving nodes) = (1 ≤ nodes) × (nodes ≤ most_nodes)
+IsBudget checking = Unit {0}
 
-pub bounded_command : (words : List (List ℕ)) (command : Solve) → command_of words ≡ Some command → IsInRange command.options
+-- the numbers of a command are in their ranges
+pub record IsInRange (command : Job) : Type 0 where
+  pub upper : IfSome command.reading.upper (λ bound. pos 0 ≤ℤ bound)
+  pub budget : IsBudget command.task
+
+pub bounded_command : (words : List (List ℕ)) (command : Job) → command_of words ≡ Some command → IsInRange command
 bounded_command words command e =
     let spelled = command_spelled words command e in
     let bounded = bounded_settled none_chosen spelled.chosen spelled.options spelled.in_range (record { upper = tt; nodes = tt }) spelled.once in
-    let budget = budget_range spelled.chosen.nodes bounded.nodes in
-    subst IsInRange (sym spelled.meant) (record { upper = bounded.upper; some = budget.0; few = budget.1 })
+    record {
+      upper = subst (λ (r : Reading). IfSome r.upper (λ bound. pos 0 ≤ℤ bound)) (sym spelled.meant) bounded.upper;
+      budget = by command.task spelled.chosen.nodes spelled.budget (budget_range spelled.chosen.nodes bounded.nodes);
+    }
+  where
+    by : (task : Task) (chosen : Option ℕ) → HasBudget task chosen → (1 ≤ unwrap_or chosen 1000) × (unwrap_or chosen 1000 ≤ most_nodes) → IsBudget task
+    by (solving nodes) chosen is range = subst (λ n. (1 ≤ n) × (n ≤ most_nodes)) (sym is) range
+    by checking chosen is range = tt
+
+-- ---- the names of a command
+
+not_same : (front same : Bool) → front && not same ≡ true → same ≡ false
+not_same true false e = refl
+not_same true true e = absurd cc
+not_same false same e = absurd cc
+
+-- MODEL and PROOF are two names
+pub names_differ : (words : List (List ℕ)) (command : Job) → command_of words ≡ Some command → command.proof ≢ command.model
+names_differ words command e =
+    let names = (command_spelled words command e).names in
+    let differ = not_same (is_file_name command.model && is_file_name command.proof) (bytes_eq command.model command.proof) names in
+    λ same. let equal = (bytes_eq-Decides command.model command.proof).1 (sym same) in absurd cc

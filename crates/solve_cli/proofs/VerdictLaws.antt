@@ -1,6 +1,7 @@
 -- A text gives one status at most, unless the budget is spent, and which ones it may give.
 use Rattle.std.proofs.Common.{◌≡◌, ◌⊎◌, ⊎_elim, inl, inr, ℕ, ℤ, ◌≤◌, ◌<◌, List, [], length, refl, sym, ap, subst, ◌∙◌, arith}
 use Rattle.std.specs.Prelude.{Result, Ok, Err}
+use Rattle.whole_rows.specs.WholeRows.{WholeRows, IsWithinLimits}
 use Rattle.int_model.specs.declared.part.Part.{Part}
 use Rattle.int_model.specs.declared.model.Model.{Model}
 use Rattle.int_model.specs.Points.{IsPoint}
@@ -8,14 +9,18 @@ use Rattle.int_model.specs.Large.{IsFirstLarge, HasNoLargePart}
 use Rattle.int_model.specs.FirstLargeLaws.{first_large_is_one}
 use Rattle.mps_model.specs.declared.fault.TextFault.{TextFault}
 use Rattle.mps_model.specs.Meaning.{meaning}
-use Rattle.solve_cli.specs.declared.status.Input.TheVariants.{ModelText}
+use Rattle.tree_checker.specs.declared.verdict.Verdict.{Verdict as Checked}
+use Rattle.tree_checker.specs.declared.verdict.Verdict.TheVariants as checked
+use Rattle.tree_checker.specs.Verdicts.{IsVerdict}
+use Rattle.solve_cli.specs.declared.status.Input.TheVariants.{ModelText, ProofText}
 use Rattle.solve_cli.specs.declared.status.Status.{Status}
-use Rattle.solve_cli.specs.declared.status.Status.TheVariants.{Optimal, Infeasible, Spent, Words, Text, TooLong, Large, ReadFault, WriteFault, NoMemory}
-use Rattle.solve_cli.specs.Words.{Options}
-use Rattle.solve_cli.specs.Limits.{most_bytes}
+use Rattle.solve_cli.specs.declared.status.Status.TheVariants.{Optimal, Infeasible, Accepted, Spent, Text, TooLong, Large, Rejected}
+use Rattle.mps_fields.specs.Lines.{most_bytes}
+use Rattle.solve_cli.specs.Words.{Reading, solving, checking, Job}
+use Rattle.solve_cli.specs.Limits.{most_proof_bytes}
 use Rattle.solve_cli.specs.Outputs.{Output}
-use Rattle.solve_cli.specs.Verdict.{enough_nodes, Solves, States, IsSearched, IsRefused, IsTooLong, Verdict}
-use Rattle.solve_cli.specs.Answer.{IsDecided, StatesSmall, SameUnlessSpent}
+use Rattle.solve_cli.specs.Verdict.{rows_of, enough_nodes, Solves, Checks, Comes, States, IsStated, IsRefused, IsTooLong, Verdict}
+use Rattle.solve_cli.specs.Answer.{IsDecided, IsChecked, StatesSmall, SameUnlessSpent, Gives}
 
 -- ---- models
 
@@ -32,12 +37,7 @@ module _ (nodes : ℕ) (model : Model) where
   solved Infeasible out s = inl (s.small, inl (inr (refl, s.none)))
   solved Spent out s = inl (s.small, inr refl)
   solved (Large part) out s = inr (part, refl, s.first)
-  solved Words out s = absurd s
-  solved (Text fault) out s = absurd s
-  solved (TooLong input) out s = absurd s
-  solved ReadFault out s = absurd s
-  solved WriteFault out s = absurd s
-  solved NoMemory out s = absurd s
+  solved status out s = absurd s
 
   one_decision : (one other : Status) → IsDecided model one → IsDecided model other → one ≡ other
   one_decision one other a b =
@@ -66,6 +66,61 @@ not_spent nodes model status out enough s spent =
     let found : Solves nodes model Spent out = subst (λ one. Solves nodes model one out) spent s in
     absurd (omega (arith, enough, found.few))
 
+-- a proof within its limit is accepted or refused at a line, where the model has no large part
+checked_small : (proof : List ℕ) (model : Model) (status : Status) (out : Output) → HasNoLargePart model → length proof ≤ most_proof_bytes → Checks proof model status out → IsChecked model proof status
+checked_small proof model Accepted out small short c = inl (refl, (c.claim, c.accepted))
+checked_small proof model (Rejected reject) out small short c = inr (reject, refl, c.refused)
+checked_small proof model (TooLong ProofText) out small short c = absurd (omega (arith, short, c.long))
+checked_small proof model (Large part) out small short c = absurd (small part c.first.large)
+checked_small proof model status out small short c = absurd c
+
+-- what a check comes to: the checker's verdict, or a proof that is too long, or a first large part
+module _ (proof : List ℕ) (model : Model) where
+  abbrev status_of : Checked → Status
+  status_of (checked.Accepted claim) = Accepted
+  status_of (checked.Rejected reject) = Rejected reject
+
+  record IsOfChecker (status : Status) : Type 0 where
+    small : HasNoLargePart model
+    limits : IsWithinLimits (rows_of model)
+    short : length proof ≤ most_proof_bytes
+    verdict : Checked
+    said : IsVerdict (rows_of model) proof verdict
+    same : status ≡ status_of verdict
+
+  record IsTooMuch (status : Status) : Type 0 where
+    small : HasNoLargePart model
+    long : most_proof_bytes < length proof
+    same : status ≡ TooLong ProofText
+
+  abbrev IsOfLarge : Status → Type 0
+  IsOfLarge status = (part : Part) × (status ≡ Large part) × IsFirstLarge model part
+
+  checked_as : (status : Status) (out : Output) → Checks proof model status out → IsOfChecker status ⊎ (IsTooMuch status ⊎ IsOfLarge status)
+  checked_as Accepted out c = inl (record { small = c.small; limits = c.limits; short = c.short; verdict = checked.Accepted c.claim; said = c.accepted; same = refl })
+  checked_as (Rejected reject) out c = inl (record { small = c.small; limits = c.limits; short = c.short; verdict = checked.Rejected reject; said = c.refused; same = refl })
+  checked_as (TooLong ProofText) out c = inr (inl (record { small = c.small; long = c.long; same = refl }))
+  checked_as (Large part) out c = inr (inr (part, refl, c.first))
+  checked_as status out c = absurd c
+
+  module _ (one_verdict : (verdict other : Checked) → IsWithinLimits (rows_of model) → IsVerdict (rows_of model) proof verdict → IsVerdict (rows_of model) proof other → verdict ≡ other) where
+    never_both : {P : Type 0} → most_proof_bytes < length proof → length proof ≤ most_proof_bytes → P
+    never_both long short = absurd (omega (arith, long, short))
+
+    one_check : (one other : Status) (out more : Output) → Checks proof model one out → Checks proof model other more → one ≡ other
+    one_check one other out more a b =
+        ⊎_elim
+        (λ first. ⊎_elim (λ second. first.same ∙ ap status_of (one_verdict first.verdict second.verdict first.limits first.said second.said) ∙ sym second.same)
+        (λ r. ⊎_elim (λ long. never_both long.long first.short) (λ large. absurd (first.small large.0 large.2.large)) r) (checked_as other more b))
+        (λ l. ⊎_elim
+        (λ long. ⊎_elim (λ second. never_both long.long second.short)
+        (λ r. ⊎_elim (λ second. long.same ∙ sym second.same) (λ large. absurd (long.small large.0 large.2.large)) r) (checked_as other more b))
+        (λ large. ⊎_elim (λ second. absurd (second.small large.0 large.2.large))
+        (λ r. ⊎_elim (λ long. absurd (long.small large.0 large.2.large))
+        (λ same. large.1 ∙ ap Large (first_large_is_one model large.0 same.0 large.2 same.2) ∙ sym same.1) r) (checked_as other more b))
+        l)
+        (checked_as one out a)
+
 -- ---- texts
 
 same_model : (found : Result Model TextFault) (one other : Model) → found ≡ Ok one → found ≡ Ok other → one ≡ other
@@ -77,61 +132,82 @@ same_fault found one other a b = cc
 never : {P : Type 0} (found : Result Model TextFault) (model : Model) (fault : TextFault) → found ≡ Ok model → found ≡ Err fault → P
 never found model fault a b = absurd cc
 
-module _ (options : Options) (text : List ℕ) where
-  -- and what a text comes to is one of three
+module _ (reading : Reading) (text : List ℕ) (Follows : Model → Status → Output → Type 0) where
+  -- what a text comes to is one of three
   abbrev Judged : Status → Output → Type 0
   Judged status out =
-      ((status ≡ TooLong ModelText) × IsTooLong text out) ⊎ (((fault : TextFault) × (status ≡ Text fault) × IsRefused options text fault out) ⊎ IsSearched options text status out)
+      ((status ≡ TooLong ModelText) × IsTooLong text out) ⊎ (((fault : TextFault) × (status ≡ Text fault) × IsRefused reading text fault out) ⊎ IsStated reading text (λ model. Follows model status out))
 
-  judged : (status : Status) (out : Output) → Verdict options text status out → Judged status out
-  judged Optimal out v = inr (inr v)
-  judged Infeasible out v = inr (inr v)
-  judged Spent out v = inr (inr v)
-  judged (Large part) out v = inr (inr v)
+  judged : (status : Status) (out : Output) → Verdict reading Follows text status out → Judged status out
   judged (Text fault) out v = inr (inl (fault, refl, v))
   judged (TooLong ModelText) out v = inl (refl, v)
-  judged Words out v = absurd v
-  judged ReadFault out v = absurd v
-  judged WriteFault out v = absurd v
-  judged NoMemory out v = absurd v
+  judged status out v = inr (inr v)
 
   abbrev found : Result Model TextFault
-  found = meaning options.layout options.upper text
-
-  one_search : (one other : Status) (out more : Output) → IsSearched options text one out → IsSearched options text other more → SameUnlessSpent one other
-  one_search one other out more a b =
-      one_solve options.nodes b.model one other out more
-      (subst (λ m. Solves options.nodes m one out) (same_model found a.model b.model a.states b.states) a.solves) b.solves
+  found = meaning reading.layout reading.upper text
 
   not_long : {P : Type 0} → most_bytes < length text → length text ≤ most_bytes → P
-  not_long long short = absurd (omega arith)
+  not_long long short = absurd (omega (arith, long, short))
 
-  pub one_status : (one other : Status) (out more : Output) → Verdict options text one out → Verdict options text other more → SameUnlessSpent one other
-  one_status one other out more a b =
-      ⊎_elim
-      (λ long. ⊎_elim (λ same. inl (long.0 ∙ sym same.0))
-      (λ r. ⊎_elim (λ refused. not_long long.1.long refused.2.short) (λ searched. not_long long.1.long searched.short) r) (judged other more b))
-      (λ l. ⊎_elim
-      (λ refused. ⊎_elim (λ long. not_long long.1.long refused.2.short)
-      (λ r. ⊎_elim (λ same. inl (refused.1 ∙ ap Text (same_fault found refused.0 same.0 refused.2.first same.2.first) ∙ sym same.1))
-      (λ searched. never found searched.model refused.0 searched.states refused.2.first) r) (judged other more b))
-      (λ searched. ⊎_elim (λ long. not_long long.1.long searched.short)
-      (λ r. ⊎_elim (λ refused. never found searched.model refused.0 searched.states refused.2.first)
-      (λ same. one_search one other out more searched same) r) (judged other more b))
-      l)
-      (judged one out a)
-
-  -- a text that states a model without a large part is searched
-  search_of : (model : Model) (status : Status) (out : Output) → StatesSmall options text model → Verdict options text status out → Solves options.nodes model status out
-  search_of model status out small v =
+  -- a text that states a model without a large part comes to what the model does
+  model_of : (model : Model) (status : Status) (out : Output) → StatesSmall reading text model → Verdict reading Follows text status out → Follows model status out
+  model_of model status out small v =
       ⊎_elim (λ long. not_long long.1.long small.short)
       (λ r. ⊎_elim (λ refused. never found model refused.0 small.states refused.2.first)
-      (λ searched. subst (λ m. Solves options.nodes m status out) (same_model found searched.model model searched.states small.states) searched.solves) r)
+      (λ stated. subst (λ m. Follows m status out) (same_model found stated.model model stated.states small.states) stated.holds) r)
       (judged status out v)
 
-  pub ends : (model : Model) (status : Status) (out : Output) → StatesSmall options text model → Verdict options text status out → IsDecided model status ⊎ (status ≡ Spent)
-  ends model status out small v = ends_model options.nodes model status out small.small (search_of model status out small v)
+-- what holds of two statuses that a model comes to, and of one and the same status, holds of two that a text gives
+module _ (reading : Reading) (text : List ℕ) (Follows : Model → Status → Output → Type 0) (R : Status → Status → Type 0) (alike : (one other : Status) → one ≡ other → R one other)
+    (models : (model : Model) (one other : Status) (out more : Output) → Follows model one out → Follows model other more → R one other) where
+  abbrev meant : Result Model TextFault
+  meant = meaning reading.layout reading.upper text
 
-  pub decides : (model : Model) (status : Status) (out : Output) → StatesSmall options text model → enough_nodes model ≤ options.nodes → Verdict options text status out → IsDecided model status
-  decides model status out small enough v =
-      ⊎_elim (λ decided. decided) (λ spent. absurd (not_spent options.nodes model status out enough (search_of model status out small v) spent)) (ends model status out small v)
+  one_text : (one other : Status) (out more : Output) → Verdict reading Follows text one out → Verdict reading Follows text other more → R one other
+  one_text one other out more a b =
+      ⊎_elim
+      (λ long. ⊎_elim (λ same. alike one other (long.0 ∙ sym same.0))
+      (λ r. ⊎_elim (λ refused. not_long reading text Follows long.1.long refused.2.short) (λ stated. not_long reading text Follows long.1.long stated.short) r) (judged reading text Follows other more b))
+      (λ l. ⊎_elim
+      (λ refused. ⊎_elim (λ long. not_long reading text Follows long.1.long refused.2.short)
+      (λ r. ⊎_elim (λ same. alike one other (refused.1 ∙ ap Text (same_fault meant refused.0 same.0 refused.2.first same.2.first) ∙ sym same.1))
+      (λ stated. never meant stated.model refused.0 stated.states refused.2.first) r) (judged reading text Follows other more b))
+      (λ stated. ⊎_elim (λ long. not_long reading text Follows long.1.long stated.short)
+      (λ r. ⊎_elim (λ refused. never meant stated.model refused.0 stated.states refused.2.first)
+      (λ same. models same.model one other out more (subst (λ m. Follows m one out) (same_model meant stated.model same.model stated.states same.states) stated.holds) same.holds) r) (judged reading text Follows other more b))
+      l)
+      (judged reading text Follows one out a)
+
+-- ---- commands
+
+-- the same under a command that solves
+module _ (command : Job) (nodes : ℕ) (solves : command.task ≡ solving nodes) (text proof : List ℕ) where
+  solve_verdict : (status : Status) → (gives : Gives command text proof status) → Verdict command.reading (Solves nodes) text status gives.0
+  solve_verdict status gives = subst (λ task. Verdict command.reading (Comes task proof) text status gives.0) solves gives.1
+
+  pub one_given : (one other : Status) → Gives command text proof one → Gives command text proof other → SameUnlessSpent one other
+  one_given one other a b =
+      one_text command.reading text (Solves nodes) SameUnlessSpent (λ one other same. inl same) (one_solve nodes) one other a.0 b.0 (solve_verdict one a) (solve_verdict other b)
+
+  pub ends : (model : Model) (status : Status) → StatesSmall command.reading text model → Gives command text proof status → IsDecided model status ⊎ (status ≡ Spent)
+  ends model status small gives = ends_model nodes model status gives.0 small.small (model_of command.reading text (Solves nodes) model status gives.0 small (solve_verdict status gives))
+
+  pub decides : (model : Model) (status : Status) → StatesSmall command.reading text model → enough_nodes model ≤ nodes → Gives command text proof status → IsDecided model status
+  decides model status small enough gives =
+      ⊎_elim (λ decided. decided)
+      (λ spent. absurd (not_spent nodes model status gives.0 enough (model_of command.reading text (Solves nodes) model status gives.0 small (solve_verdict status gives)) spent))
+      (ends model status small gives)
+
+-- and under one that checks
+module _ (command : Job) (task : command.task ≡ checking) (text proof : List ℕ) where
+  check_verdict : (status : Status) → (gives : Gives command text proof status) → Verdict command.reading (Checks proof) text status gives.0
+  check_verdict status gives = subst (λ task. Verdict command.reading (Comes task proof) text status gives.0) task gives.1
+
+  pub one_checked : ((rows : WholeRows) (text : List ℕ) (verdict other : Checked) → IsWithinLimits rows → IsVerdict rows text verdict → IsVerdict rows text other → verdict ≡ other)
+      → (one other : Status) → Gives command text proof one → Gives command text proof other → one ≡ other
+  one_checked one_verdict one other a b =
+      one_text command.reading text (Checks proof) (λ one other. one ≡ other) (λ one other same. same) (λ model. one_check proof model (one_verdict (rows_of model) proof)) one other a.0 b.0
+      (check_verdict one a) (check_verdict other b)
+
+  pub checks : (model : Model) (status : Status) → StatesSmall command.reading text model → length proof ≤ most_proof_bytes → Gives command text proof status → IsChecked model proof status
+  checks model status small short gives = checked_small proof model status gives.0 small.small short (model_of command.reading text (Checks proof) model status gives.0 small (check_verdict status gives))

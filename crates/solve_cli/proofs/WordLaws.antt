@@ -7,7 +7,7 @@ use Rattle.std.proofs.lemmas.Option.{same_Some}
 use Rattle.solve_cli.specs.declared.words.SolveOption.{SolveOption}
 use Rattle.solve_cli.specs.declared.words.SolveOption.TheVariants.{Fixed, Upper, Nodes}
 use Rattle.solve_cli.specs.declared.words.Chosen.{Chosen}
-use Rattle.solve_cli.specs.Words.{number_within, most_upper, most_nodes, valued_option_of, first_option_of, words_in, options_of, with_option, settled, none_chosen, chosen_options, settled_options, are_file_names, named, solve_of}
+use Rattle.solve_cli.specs.Words.{number_within, most_upper, most_nodes, valued_option_of, first_option_of, words_in, options_of, with_option, settled, none_chosen, settled_options, are_file_names, named, files_of}
 
 -- an option in front of what words spell behind it
 abbrev before : SolveOption → List (List ℕ) → Option (List SolveOption)
@@ -145,8 +145,8 @@ module _ {X : Type 0} (text : X → List ℕ) (words front names : List X) (k : 
     (count : k ≡ length words - 2) (in_front : front ≡ take k words) (behind : names ≡ drop k words) (two : length names ≡ 2)
     (is_model : model ≡ get_or names 0 model) (is_proof : proof ≡ get_or names 1 proof) where
   -- what the words in front settle, with the two names
-  solve_is : solve_of (map text words) ≡ option_and_then (named (text model ∷ text proof ∷ [])) (option_and_then (settled none_chosen) (options_of (map text front)))
-  solve_is =
+  files_are : files_of (map text words) ≡ option_and_then (named (text model ∷ text proof ∷ [])) (option_and_then (settled none_chosen) (options_of (map text front)))
+  files_are =
       let n : length (map text words) - 2 ≡ k = ap (λ m. m - 2) (length-map words text) ∙ sym count in
       let last : drop (length (map text words) - 2) (map text words) ≡ text model ∷ text proof ∷ [] =
       ap (λ m. drop m (map text words)) n ∙ drop-map text k words ∙ ap (map text) (sym behind ∙ two_items names model proof two is_model is_proof) in
@@ -156,16 +156,16 @@ module _ {X : Type 0} (text : X → List ℕ) (words front names : List X) (k : 
       ∙ ap (λ words. option_and_then (named (text model ∷ text proof ∷ [])) (settled_options words)) first
 
   -- the names are no two names of files
-  pub not_named : are_file_names (text model) (text proof) ≡ false → solve_of (map text words) ≡ None
-  not_named other = solve_is ∙ by (option_and_then (settled none_chosen) (options_of (map text front)))
+  pub not_named : are_file_names (text model) (text proof) ≡ false → files_of (map text words) ≡ None
+  not_named other = files_are ∙ by (option_and_then (settled none_chosen) (options_of (map text front)))
     where
       by : (chosen : Option Chosen) → option_and_then (named (text model ∷ text proof ∷ [])) chosen ≡ None
       by None = refl
       by (Some chosen) = rw other refl
 
-  -- the command
-  pub is_solve : (chosen : Chosen) (model_name proof_name : List ℕ) → are_file_names (text model) (text proof) ≡ true
+  -- the options and the names
+  pub is_files : (chosen : Chosen) (model_name proof_name : List ℕ) → are_file_names (text model) (text proof) ≡ true
       → Some chosen ≡ option_and_then (settled none_chosen) (options_of (map text front)) → model_name ≡ text model → proof_name ≡ text proof
-      → solve_of (map text words) ≡ Some (record { options = chosen_options chosen; model = model_name; proof = proof_name })
-  is_solve chosen model_name proof_name files settles same_model same_proof =
-      solve_is ∙ ap (option_and_then (named (text model ∷ text proof ∷ []))) (sym settles) ∙ rw (files, same_model, same_proof) refl
+      → files_of (map text words) ≡ Some (record { chosen = chosen; model = model_name; proof = proof_name })
+  is_files chosen model_name proof_name files settles same_model same_proof =
+      files_are ∙ ap (option_and_then (named (text model ∷ text proof ∷ []))) (sym settles) ∙ rw (files, same_model, same_proof) refl

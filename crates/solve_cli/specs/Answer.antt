@@ -1,17 +1,23 @@
 -- When a run answers which status, and what it says then.
-use Rattle.std.specs.Prelude.{◌≡◌, ◌⊎◌, ◌≤◌, ◌<◌, ℕ, ℤ, List, [], ◌∷◌, length, take, drop, codes, Option, Some, None, option_map, IfSome}
+use Rattle.std.specs.Prelude.{◌≡◌, ◌⊎◌, ◌≤◌, ◌<◌, ℕ, ℤ, List, [], ◌∷◌, length, take, codes, Option, Some, None, option_map, IfSome}
 use Rattle.desk_io.specs.Desk.{Fault, fault, appended, AppendsSome, Same, SameButAt, Rose}
 use Rattle.desk_io.specs.declared.desk.Call.TheVariants.{Take, Put, Say}
 use Rattle.int_model.specs.declared.model.Model.{Model}
 use Rattle.int_model.specs.Points.{IsPoint}
 use Rattle.int_model.specs.Large.{HasNoLargePart}
+use Rattle.proof_text.specs.declared.claim.Claim.{Claim}
+use Rattle.tree_checker.specs.declared.verdict.Reject.{Reject}
+use Rattle.tree_checker.specs.Accepts.{Accepts}
+use Rattle.tree_checker.specs.Rejects.{RejectsAt}
+use Rattle.solve_cli.specs.declared.status.Input.TheVariants.{ModelText, ProofText}
 use Rattle.solve_cli.specs.declared.status.Status.{Status}
-use Rattle.solve_cli.specs.declared.status.Status.TheVariants.{Optimal, Infeasible, Spent, Words, Text, TooLong, Large, ReadFault, WriteFault, NoMemory}
-use Rattle.solve_cli.specs.Words.{Options, Solve, command_of}
-use Rattle.solve_cli.specs.Limits.{most_bytes, most_taken}
+use Rattle.solve_cli.specs.declared.status.Status.TheVariants.{Optimal, Infeasible, Accepted, Spent, Words, Text, TooLong, Large, ReadFault, WriteFault, NoMemory, Rejected}
+use Rattle.mps_fields.specs.Lines.{most_bytes}
+use Rattle.solve_cli.specs.Words.{Reading, solving, checking, Job, command_of}
+use Rattle.solve_cli.specs.Limits.{most_proof_bytes, untaken}
 use Rattle.solve_cli.specs.Report.{report_of}
 use Rattle.solve_cli.specs.Outputs.{Output, only}
-use Rattle.solve_cli.specs.Verdict.{States, enough_nodes, Verdict}
+use Rattle.solve_cli.specs.Verdict.{rows_of, States, enough_nodes, Comes, Verdict}
 
 -- what a run was given: its words, what was left of each input, what had been put into each output, and how often the desk had
 -- failed
@@ -33,28 +39,36 @@ pub record Faults : Type 0 where
 abbrev pub desk_faults : ℕ → Option Fault → Faults
 desk_faults count last = record { count = count; last = last }
 
--- the words are a command, and under its options this is the verdict on the bytes that were left of MODEL: on those
--- that the desk tells, or where it tells none on some bytes
-pub record JudgesText (given : Given) (status : Status) (out : Output) : Type 0 where
-  pub command : Solve
+-- the inputs of a command: MODEL, and PROOF where it is checked
+abbrev pub IsInput : Job → List ℕ → Type 0
+IsInput command name = (name ≡ command.model) ⊎ ((command.task ≡ checking) × (name ≡ command.proof))
+
+-- The words are a command, and this is what it comes to on the bytes that were left of MODEL and of PROOF: on those that the desk
+-- tells, or where it tells none on some bytes. Solving reads none of PROOF.
+pub record Judges (given : Given) (status : Status) (out : Output) : Type 0 where
+  pub command : Job
   pub spelled : command_of given.words ≡ Some command
   pub text : List ℕ
   pub told : IfSome (given.left command.model) (λ left. left ≡ text)
-  pub verdict : Verdict command.options text status out
+  pub proof : List ℕ
+  pub proof_told : IfSome (given.left command.proof) (λ left. left ≡ proof)
+  pub verdict : Verdict command.reading (Comes command.task proof) text status out
 
--- the desk failed in a take of MODEL
+-- the desk failed in a take of an input
 pub record FailsToRead (given : Given) (faults : Faults) (out : Output) : Type 0 where
-  pub command : Solve
+  pub command : Job
   pub spelled : command_of given.words ≡ Some command
+  pub name : List ℕ
+  pub input : IsInput command name
   pub rose : Rose given.faults faults.count
-  pub last : faults.last ≡ Some (fault Take command.model)
+  pub last : faults.last ≡ Some (fault Take name)
   pub report : out ≡ only (codes "READFAULT" ∷ [])
 
 -- first bytes of a proof that was to be put, which may be all of them
 pub record IsStarted (given : Given) (proof : List ℕ) : Type 0 where
   pub status : Status
   pub whole : Output
-  pub judged : JudgesText given status whole
+  pub judged : Judges given status whole
   pub count : ℕ
   pub bytes : proof ≡ take count whole.proof
 
@@ -65,22 +79,17 @@ pub record LacksMemory (given : Given) (out : Output) : Type 0 where
 
 -- why a status may be answered, and what is to be written then
 abbrev pub Reason : Given → Faults → Status → Output → Type 0
-Reason given faults Optimal out = JudgesText given Optimal out
-Reason given faults Infeasible out = JudgesText given Infeasible out
-Reason given faults Spent out = JudgesText given Spent out
-Reason given faults (Text fault) out = JudgesText given (Text fault) out
-Reason given faults (TooLong input) out = JudgesText given (TooLong input) out
-Reason given faults (Large part) out = JudgesText given (Large part) out
 Reason given faults Words out = (command_of given.words ≡ None) × (out ≡ only (codes "WORDS" ∷ []))
 Reason given faults ReadFault out = FailsToRead given faults out
 Reason given faults WriteFault out = ⊥
 Reason given faults NoMemory out = LacksMemory given out
+Reason given faults status out = Judges given status out
 
 -- these bytes were put into PROOF, and nothing was put into another output
 pub record Puts (given : Given) (bytes : List ℕ) (written : List ℕ → Option (List ℕ)) : Type 0 where
   pub no_command : command_of given.words ≡ None → Same given.written written
-  pub others : (command : Solve) → command_of given.words ≡ Some command → SameButAt command.proof given.written written
-  pub proof : (command : Solve) → command_of given.words ≡ Some command → written command.proof ≡ option_map (appended bytes) (given.written command.proof)
+  pub others : (command : Job) → command_of given.words ≡ Some command → SameButAt command.proof given.written written
+  pub proof : (command : Job) → command_of given.words ≡ Some command → written command.proof ≡ option_map (appended bytes) (given.written command.proof)
 
 -- the status has a reason, its proof was put, and then its lines were said
 pub record SaysAll (given : Given) (faults : Faults) (written : List ℕ → Option (List ℕ)) (status : Status) (before after : Option (List ℕ)) : Type 0 where
@@ -105,10 +114,11 @@ pub record FailsToSay (given : Given) (faults : Faults) (written : List ℕ → 
   pub rose : Rose earlier.count faults.count
   pub last : faults.last ≡ Some (fault Say [])
 
--- the desk failed in a put into PROOF, some first bytes of the proof were put, and nothing was said
+-- a model was solved, the desk failed in a put into PROOF, some first bytes of the proof were put, and nothing was said
 pub record FailsToPut (given : Given) (faults : Faults) (written : List ℕ → Option (List ℕ)) : Type 0 where
-  pub command : Solve
+  pub command : Job
   pub spelled : command_of given.words ≡ Some command
+  pub solves : (nodes : ℕ) × (command.task ≡ solving nodes)
   pub bytes : List ℕ
   pub started : IsStarted given bytes
   pub put : Puts given bytes written
@@ -117,42 +127,35 @@ pub record FailsToPut (given : Given) (faults : Faults) (written : List ℕ → 
 
 -- what a run answers
 abbrev pub Answer : Given → Faults → (List ℕ → Option (List ℕ)) → Option (List ℕ) → Option (List ℕ) → Status → Type 0
-Answer given faults written before after Optimal = SaysAll given faults written Optimal before after
-Answer given faults written before after Infeasible = SaysAll given faults written Infeasible before after
-Answer given faults written before after Spent = SaysAll given faults written Spent before after
-Answer given faults written before after Words = SaysAll given faults written Words before after
-Answer given faults written before after (Text fault) = SaysAll given faults written (Text fault) before after
-Answer given faults written before after (TooLong input) = SaysAll given faults written (TooLong input) before after
-Answer given faults written before after (Large part) = SaysAll given faults written (Large part) before after
-Answer given faults written before after ReadFault = SaysAll given faults written ReadFault before after
 Answer given faults written before after WriteFault = FailsToSay given faults written before after ⊎ (FailsToPut given faults written × (after ≡ before))
 Answer given faults written before after NoMemory = SaysSome given faults written before after
-
--- the text of MODEL was judged
-abbrev pub IsJudged : Status → Type 0
-IsJudged Optimal = Unit {0}
-IsJudged Infeasible = Unit {0}
-IsJudged Spent = Unit {0}
-IsJudged (Text fault) = Unit {0}
-IsJudged (TooLong input) = Unit {0}
-IsJudged (Large part) = Unit {0}
-IsJudged Words = ⊥
-IsJudged ReadFault = ⊥
-IsJudged WriteFault = ⊥
-IsJudged NoMemory = ⊥
+Answer given faults written before after status = SaysAll given faults written status before after
 
 -- neither a fault nor want of memory is what the status tells
 abbrev pub IsCalm : Status → Type 0
-IsCalm Words = Unit {0}
-IsCalm Optimal = IsJudged Optimal
-IsCalm Infeasible = IsJudged Infeasible
-IsCalm Spent = IsJudged Spent
-IsCalm (Text fault) = IsJudged (Text fault)
-IsCalm (TooLong input) = IsJudged (TooLong input)
-IsCalm (Large part) = IsJudged (Large part)
 IsCalm ReadFault = ⊥
 IsCalm WriteFault = ⊥
 IsCalm NoMemory = ⊥
+IsCalm status = Unit {0}
+
+-- the text of MODEL was judged
+abbrev pub IsJudged : Status → Type 0
+IsJudged Words = ⊥
+IsJudged status = IsCalm status
+
+-- the text of MODEL alone was judged
+abbrev pub IsOfModel : Status → Type 0
+IsOfModel (Text fault) = Unit {0}
+IsOfModel (TooLong ModelText) = Unit {0}
+IsOfModel (Large part) = Unit {0}
+IsOfModel status = ⊥
+
+-- the text of PROOF was judged
+abbrev pub IsOfProof : Status → Type 0
+IsOfProof Accepted = Unit {0}
+IsOfProof (Rejected reject) = Unit {0}
+IsOfProof (TooLong ProofText) = Unit {0}
+IsOfProof status = ⊥
 
 -- the desk's faults are as they were before
 abbrev pub KeepsFaults : Faults → Faults → Type 0
@@ -163,39 +166,53 @@ pub record FailedInWrite (before now : Faults) : Type 0 where
   pub more : before.count < now.count
   pub last : (now.last ≡ Some (fault Say [])) ⊎ ((name : List ℕ) × (now.last ≡ Some (fault Put name)))
 
--- which inputs were taken: none without a command, and else at most MODEL, to its end or one byte past the limit on
--- the bytes of a text where the text was judged
+-- Which inputs were taken: none without a command, and else at most the command's. MODEL was taken to its end, or to one byte past
+-- the limit, where its text was judged, and PROOF where its text was judged. PROOF was not taken where MODEL decided alone.
 pub record TakesInput (given : Given) (left : List ℕ → Option (List ℕ)) (status : Status) : Type 0 where
   pub no_command : command_of given.words ≡ None → Same given.left left
-  pub others : (command : Solve) → command_of given.words ≡ Some command → SameButAt command.model given.left left
-  pub model : (command : Solve) → command_of given.words ≡ Some command → IsJudged status → left command.model ≡ option_map (drop most_taken) (given.left command.model)
+  pub others : (command : Job) → command_of given.words ≡ Some command → (name : List ℕ) → (IsInput command name → ⊥) → left name ≡ given.left name
+  pub model : (command : Job) → command_of given.words ≡ Some command → IsJudged status → left command.model ≡ option_map (untaken most_bytes) (given.left command.model)
+  pub proof : (command : Job) → command_of given.words ≡ Some command → IsOfProof status → left command.proof ≡ option_map (untaken most_proof_bytes) (given.left command.proof)
+  pub untouched : (command : Job) → command_of given.words ≡ Some command → IsOfModel status → left command.proof ≡ given.left command.proof
 
--- the text gives this status
-abbrev pub Gives : Options → List ℕ → Status → Type 0
-Gives options text status = (out : Output) × Verdict options text status out
+-- the bytes of MODEL and of PROOF give this status
+abbrev pub Gives : Job → List ℕ → List ℕ → Status → Type 0
+Gives command text proof status = (out : Output) × Verdict command.reading (Comes command.task proof) text status out
 
 -- the model has a point and the status is Optimal, or it has none and the status is Infeasible
 abbrev pub IsDecided : Model → Status → Type 0
 IsDecided model status = ((status ≡ Optimal) × ((x : List ℤ) × IsPoint model x)) ⊎ ((status ≡ Infeasible) × ((x : List ℤ) → IsPoint model x → ⊥))
+
+-- the proof is accepted and the status is Accepted, or it is refused at a line and the status tells it
+abbrev pub IsChecked : Model → List ℕ → Status → Type 0
+IsChecked model proof status =
+    ((status ≡ Accepted) × ((claim : Claim) × Accepts (rows_of model) proof claim)) ⊎ ((reject : Reject) × (status ≡ Rejected reject) × RejectsAt (rows_of model) proof reject)
 
 -- two statuses are the same, unless the budget is spent in one of them
 abbrev pub SameUnlessSpent : Status → Status → Type 0
 SameUnlessSpent one other = (one ≡ other) ⊎ ((one ≡ Spent) ⊎ (other ≡ Spent))
 
 -- the text is short enough and states this model, none of whose parts is too large
-pub record StatesSmall (options : Options) (text : List ℕ) (model : Model) : Type 0 where
+pub record StatesSmall (reading : Reading) (text : List ℕ) (model : Model) : Type 0 where
   pub short : length text ≤ most_bytes
-  pub states : States options text model
+  pub states : States reading text model
   pub small : HasNoLargePart model
 
--- Where no fault rises, words without a command give Words, and a command whose MODEL is told gives what the text gives. So a
--- model without a large part is decided, unless the budget is spent, and where the budget has enough nodes it is decided. Want of
--- memory may come in place of each.
+-- the desk tells these bytes of MODEL, and where a proof is checked these of PROOF
+pub record Tells (given : Given) (command : Job) (text proof : List ℕ) : Type 0 where
+  pub spelled : command_of given.words ≡ Some command
+  pub in_model : given.left command.model ≡ Some text
+  pub in_proof : command.task ≡ checking → given.left command.proof ≡ Some proof
+
+-- Where no fault rises, words without a command give Words, and a command whose inputs are told gives what their bytes give. So a
+-- model without a large part is decided, unless the budget is spent, and where the budget has enough nodes it is decided; and a
+-- proof within its limit is accepted, or refused at a line. Want of memory may come in place of each.
 pub record IsComplete (given : Given) (faults : Faults) (status : Status) : Type 0 where
   pub no_command : command_of given.words ≡ None → (Rose given.faults faults.count → ⊥) → (status ≡ Words) ⊎ (status ≡ NoMemory)
-  pub text : (command : Solve) (text : List ℕ) → command_of given.words ≡ Some command → given.left command.model ≡ Some text
-      → (Rose given.faults faults.count → ⊥) → Gives command.options text status ⊎ (status ≡ NoMemory)
-  pub ends : (command : Solve) (text : List ℕ) (model : Model) → command_of given.words ≡ Some command → given.left command.model ≡ Some text
-      → StatesSmall command.options text model → (Rose given.faults faults.count → ⊥) → IsDecided model status ⊎ ((status ≡ Spent) ⊎ (status ≡ NoMemory))
-  pub enough : (command : Solve) (text : List ℕ) (model : Model) → command_of given.words ≡ Some command → given.left command.model ≡ Some text
-      → StatesSmall command.options text model → enough_nodes model ≤ command.options.nodes → (Rose given.faults faults.count → ⊥) → IsDecided model status ⊎ (status ≡ NoMemory)
+  pub text : (command : Job) (text proof : List ℕ) → Tells given command text proof → (Rose given.faults faults.count → ⊥) → Gives command text proof status ⊎ (status ≡ NoMemory)
+  pub ends : (command : Job) (nodes : ℕ) (text proof : List ℕ) (model : Model) → command.task ≡ solving nodes → Tells given command text proof → StatesSmall command.reading text model
+      → (Rose given.faults faults.count → ⊥) → IsDecided model status ⊎ ((status ≡ Spent) ⊎ (status ≡ NoMemory))
+  pub enough : (command : Job) (nodes : ℕ) (text proof : List ℕ) (model : Model) → command.task ≡ solving nodes → Tells given command text proof → StatesSmall command.reading text model
+      → enough_nodes model ≤ nodes → (Rose given.faults faults.count → ⊥) → IsDecided model status ⊎ (status ≡ NoMemory)
+  pub checks : (command : Job) (text proof : List ℕ) (model : Model) → command.task ≡ checking → Tells given command text proof → StatesSmall command.reading text model
+      → length proof ≤ most_proof_bytes → (Rose given.faults faults.count → ⊥) → IsChecked model proof status ⊎ (status ≡ NoMemory)

@@ -1,3 +1,4 @@
+pub mod FileNames
 pub mod Words
 pub mod Commands
 pub mod Codes
@@ -6,6 +7,7 @@ pub mod Report
 pub mod Limits
 pub mod Verdict
 pub mod Answer
+pub mod Headline
 pub mod Solving
 pub mod PlainPaths
 pub mod Outputs

@@ -11,6 +11,11 @@ use Rattle.int_model.specs.declared.part.Part.TheVariants as parts
 use Rattle.mps_model.specs.declared.fault.FaultKind.{FaultKind}
 use Rattle.mps_model.specs.declared.fault.FaultKind.TheVariants as faults
 use Rattle.mps_model.specs.declared.fault.TextFault.{TextFault}
+use Rattle.proof_text.specs.declared.claim.Claim.{Claim}
+use Rattle.proof_text.specs.declared.claim.Claim.TheVariants as claims
+use Rattle.tree_checker.specs.declared.verdict.Reject.{Reject}
+use Rattle.tree_checker.specs.declared.verdict.RejectKind.{RejectKind}
+use Rattle.tree_checker.specs.declared.verdict.RejectKind.TheVariants as rejects
 
 -- the lines as one text
 abbrev pub report_of : List (List ℕ) → List ℕ
@@ -90,3 +95,28 @@ name_of faults.NoEnd = codes "NoEnd"
 -- the line of a fault: its kind and the number of its line
 abbrev pub text_line : TextFault → List ℕ
 text_line fault = codes "TEXT " ++ name_of fault.kind ++ 32 ∷ decimal fault.line
+
+-- a proof that is accepted: its claim, and the value of the point that it claims
+abbrev pub accepted_lines : (List ℤ → ℚ) → Claim → List (List ℕ)
+accepted_lines value (claims.Optimal point) = codes "ACCEPTED OPTIMAL" ∷ (codes "VALUE " ++ fraction_text (value point)) ∷ []
+accepted_lines value claims.Infeasible = codes "ACCEPTED INFEASIBLE" ∷ []
+accepted_lines value claims.Open = []
+
+-- the name that is printed for the kind of a line that is refused
+abbrev pub reject_name : RejectKind → List ℕ
+reject_name rejects.LongLine = codes "LongLine"
+reject_name rejects.Short = codes "Short"
+reject_name rejects.Tail = codes "Tail"
+reject_name rejects.Head = codes "Head"
+reject_name rejects.Claim = codes "Claim"
+reject_name rejects.Point = codes "Point"
+reject_name rejects.Record = codes "Record"
+reject_name rejects.Number = codes "Number"
+reject_name rejects.Depth = codes "Depth"
+reject_name rejects.Weight = codes "Weight"
+reject_name rejects.Cut = codes "Cut"
+reject_name rejects.Refute = codes "Refute"
+
+-- a proof that is refused: the kind and the number of its first line that does not pass
+abbrev pub reject_line : Reject → List ℕ
+reject_line reject = codes "REJECTED " ++ reject_name reject.kind ++ 32 ∷ decimal reject.line

@@ -1,16 +1,14 @@
 -- The command that a list of words spells.
-use Rattle.std.specs.Prelude.{◌≡◌, ◌++◌, ◌≤◌, ◌≤ℤ◌, All, flat_map, ℕ, Bool, true, not, ◌&&◌, ◌||◌, nat_le, ◌-◌, ◌==◌, if◌then◌else◌, List, [], ◌∷◌, length, take, drop, slice_index, ℤ, pos, Option, Some, None, option_map, option_and_then, unwrap_or, codes, bytes_eq, decimal}
+use Rattle.std.specs.Prelude.{◌≡◌, ◌++◌, ◌≤◌, ◌≤ℤ◌, All, flat_map, ℕ, Bool, true, not, ◌&&◌, ◌||◌, nat_le, ◌-◌, ◌==◌, if◌then◌else◌, List, [], ◌∷◌, length, take, drop, slice_index, ℤ, pos, Option, Some, None, option_map, option_and_then, unwrap_or, is_some, codes, bytes_eq, decimal}
 use Rattle.std.specs.Fmt.{signed_decimal}
 use Rattle.mps_fields.specs.Decimal.{is_digits, digits_value}
 use Rattle.mps_model.specs.declared.layout.Layout.{Layout}
 use Rattle.mps_model.specs.declared.layout.Layout.TheVariants.{Free, Fixed as fixed_layout}
+use Rattle.solve_cli.specs.FileNames.{is_file_name}
 use Rattle.solve_cli.specs.declared.words.SolveOption.{SolveOption}
 use Rattle.solve_cli.specs.declared.words.SolveOption.TheVariants.{Fixed, Upper, Nodes}
 use Rattle.solve_cli.specs.declared.words.Chosen.{Chosen}
-
--- the name of a file has 1 to 255 bytes, and does not begin with a dash (the byte 45)
-abbrev pub is_file_name : List ℕ → Bool
-is_file_name word = nat_le 1 (length word) && nat_le (length word) 255 && not (slice_index word 0 == 45)
+use Rattle.solve_cli.specs.declared.words.Files.{Files}
 
 -- digits, the first of which is no 0 (the byte 48) unless it is the only one
 abbrev pub is_plain_number : List ℕ → Bool
@@ -86,42 +84,55 @@ none_chosen = record { layout = Free; upper = None; nodes = None }
 abbrev pub settled_options : List (List ℕ) → Option Chosen
 settled_options words = option_and_then (settled none_chosen) (options_of words)
 
--- how a model text is read and its model searched: its layout, the upper bound of the columns for which it gives none, and
--- how many nodes may be worked
-pub record Options : Type 0 where
+-- how a model text is read: its layout, and the upper bound of the columns for which it gives none
+pub record Reading : Type 0 where
   pub layout : Layout
   pub upper : Option ℤ
-  pub nodes : ℕ
 
-abbrev pub options : Layout → Option ℤ → ℕ → Options
-options layout upper nodes = record { layout = layout; upper = upper; nodes = nodes }
+abbrev pub reading : Layout → Option ℤ → Reading
+reading layout upper = record { layout = layout; upper = upper }
 
--- what was chosen, or stands where nothing was: a budget of 1000 nodes
-abbrev pub chosen_options : Chosen → Options
-chosen_options chosen = options chosen.layout chosen.upper (unwrap_or chosen.nodes 1000)
+-- what is done with a model: it is solved with a budget of so many nodes, or a proof is checked against it
+pub data Task : Type 0 where
+  solving : ℕ → Task
+  checking : Task
 
--- `solve [--fixed] [--upper U] [--nodes N] MODEL PROOF`: the options, and the names of the two files
-pub record Solve : Type 0 where
-  pub options : Options
+-- a command: what is done with the model that MODEL states, and the names of MODEL and PROOF
+pub record Job : Type 0 where
+  pub task : Task
+  pub reading : Reading
   pub model : List ℕ
   pub proof : List ℕ
+
+abbrev pub job : Task → Layout → Option ℤ → List ℕ → List ℕ → Job
+job task layout upper model proof = record { task = task; reading = reading layout upper; model = model; proof = proof }
 
 -- the names of the files differ
 abbrev pub are_file_names : List ℕ → List ℕ → Bool
 are_file_names model proof = is_file_name model && is_file_name proof && not (bytes_eq model proof)
 
-abbrev pub named : List (List ℕ) → Chosen → Option Solve
-named (model ∷ proof ∷ []) chosen = if are_file_names model proof then Some (record { options = chosen_options chosen; model = model; proof = proof }) else None
+abbrev pub named : List (List ℕ) → Chosen → Option Files
+named (model ∷ proof ∷ []) chosen = if are_file_names model proof then Some (record { chosen = chosen; model = model; proof = proof }) else None
 named words chosen = None
 
 -- options in front of two names
-abbrev pub solve_of : List (List ℕ) → Option Solve
-solve_of words = option_and_then (named (drop (length words - 2) words)) (settled_options (take (length words - 2) words))
+abbrev pub files_of : List (List ℕ) → Option Files
+files_of words = option_and_then (named (drop (length words - 2) words)) (settled_options (take (length words - 2) words))
+
+-- solving has a budget of 1000 nodes where none is chosen
+abbrev pub solve_of : Files → Job
+solve_of files = job (solving (unwrap_or files.chosen.nodes 1000)) files.chosen.layout files.chosen.upper files.model files.proof
+
+-- checking has no budget
+abbrev pub check_of : Files → Option Job
+check_of files = if is_some files.chosen.nodes then None else Some (job checking files.chosen.layout files.chosen.upper files.model files.proof)
 
 -- the command, or none
-abbrev pub command_of : List (List ℕ) → Option Solve
+abbrev pub command_of : List (List ℕ) → Option Job
 command_of [] = None
-command_of (word ∷ words) = if bytes_eq word (codes "solve") then solve_of words else None
+command_of (word ∷ words) =
+    if bytes_eq word (codes "solve") then option_map solve_of (files_of words)
+    else if bytes_eq word (codes "check") then option_and_then check_of (files_of words) else None
 
 -- the words of an option
 abbrev pub option_words : SolveOption → List (List ℕ)
@@ -135,12 +146,24 @@ IsOption Fixed = Unit {0}
 IsOption (Upper bound) = (pos 0 ≤ℤ bound) × (bound ≤ℤ pos most_upper)
 IsOption (Nodes count) = (1 ≤ count) × (count ≤ most_nodes)
 
--- the word `solve`, options in any order, each at most once, and two different names of files
-pub record Spells (words : List (List ℕ)) (command : Solve) : Type 0 where
+-- the first word of a command
+abbrev pub task_word : Task → List ℕ
+task_word (solving nodes) = codes "solve"
+task_word checking = codes "check"
+
+-- the budget is the one that is chosen, or 1000 where none is; a check has none
+abbrev pub HasBudget : Task → Option ℕ → Type 0
+HasBudget (solving nodes) chosen = nodes ≡ unwrap_or chosen 1000
+HasBudget checking chosen = chosen ≡ None
+
+-- `solve [--fixed] [--upper U] [--nodes N] MODEL PROOF` or `check [--fixed] [--upper U] MODEL PROOF`: options in any order, each at
+-- most once, and two different names of files
+pub record Spells (words : List (List ℕ)) (command : Job) : Type 0 where
   pub options : List SolveOption
   pub in_range : All IsOption options
   pub chosen : Chosen
   pub once : settled none_chosen options ≡ Some chosen
-  pub meant : command.options ≡ chosen_options chosen
+  pub meant : command.reading ≡ reading chosen.layout chosen.upper
+  pub budget : HasBudget command.task chosen.nodes
   pub names : are_file_names command.model command.proof ≡ true
-  pub spelled : words ≡ codes "solve" ∷ (flat_map option_words options ++ command.model ∷ command.proof ∷ [])
+  pub spelled : words ≡ task_word command.task ∷ (flat_map option_words options ++ command.model ∷ command.proof ∷ [])

@@ -1,48 +1,85 @@
 //! The run of the program.
-ghost use Rattle.std.specs.Prelude.{◌≡◌, ◌≤◌, ℕ, ◌∷◌, [], List, pos, ◌≤ℤ◌, Some, drop, map, option_map, IfSome, IfOk, MatchResult, string_bytes};
+ghost use Rattle.std.specs.Prelude.{◌≡◌, ◌≤◌, ℕ, ◌∷◌, [], List, pos, ◌≤ℤ◌, Some, map, option_map, IfSome, IfOk, MatchResult, string_bytes};
 ghost use Rattle.desk_io.specs.Desk.{Same, SameButAt};
-ghost use Rattle.solve_cli.specs.Words.{Solve, options, command_of};
-ghost use Rattle.solve_cli.specs.Limits.{most_taken};
-ghost use Rattle.solve_cli.specs.Report.{report_of};
-ghost use Rattle.solve_cli.specs.Verdict.{Verdict};
-ghost use Rattle.solve_cli.specs.Answer.{run_given, desk_faults, Answer, IsJudged, IsCalm, KeepsFaults, FailedInWrite, TakesInput, IsComplete};
-ghost use Rattle.solve_cli.specs.Solving.{Replies, IsReplied, IsSaid, StaysCalm, FailsAsTold};
+ghost use Rattle.int_model.specs.declared.model.Model.{Model};
+ghost use Rattle.int_model.specs.IntegerRows.{integer_rows};
+ghost use Rattle.mps_fields.specs.Lines.{most_bytes};
+ghost use Rattle.solve_cli.specs.Words.{most_nodes, reading as reading_of, solving, checking, job, command_of};
+ghost use Rattle.solve_cli.specs.Limits.{most_proof_bytes, untaken};
+ghost use Rattle.solve_cli.specs.Verdict.{Checks};
+ghost use Rattle.solve_cli.specs.Answer.{run_given, desk_faults, Answer, IsJudged, IsOfProof, IsCalm, KeepsFaults, FailedInWrite, TakesInput, IsComplete};
+ghost use Rattle.solve_cli.specs.Headline.{Headline};
+ghost use Rattle.solve_cli.specs.Solving.{HasRows, Replies, IsReplied, IsSaid, IsRead, IsModelTaken, IsTried, StaysCalm, LeavesCalm, FailsInTake, FailsAsTold};
 
+use crate::check::check_text;
+use crate::file_name::FileName;
 use crate::proof::put_proof;
-use crate::reply::{Reply, line_reply, text_reply};
+use crate::reply::{Reply, line_reply};
 use crate::search::search_model;
-use crate::status::{Input, Status};
-use crate::take::{MOST_TEXT_BYTES, TakeStop, take_text};
-use crate::words::{Command, FileName, WordsStop, read_words};
+use crate::stated::{Stated, state};
+use crate::status::Status;
+use crate::take::{MOST_PROOF_BYTES, MOST_TEXT_BYTES, TakeStop, take_text};
+use crate::words::{Command, WordsStop, read_words};
 use desk_io::{Desk, DeskStop};
-use mps_model::{Layout, ReadStop, read};
+use int_model::IntRows;
+use mps_model::Layout;
 use sequence::NoMemory;
 use std::alloc::Global;
 
-// Judges a text, and searches the model that it states.
-fn solve(
+// Takes the text of the model from the desk, and judges it.
+fn take_model<D: Desk>(
     alloc: Global,
     layout: Layout,
     upper: Option<i128>,
-    nodes: u32,
-    text: &[u8],
-) -> Result<Reply, NoMemory>
-    requires upper { IfSome upper (λ bound. pos 0 ≤ℤ bound) }
-    requires some { 1 ≤ nodes }
-    ensures { IfOk result (Replies (Verdict (options layout upper nodes) text.now)) }
+    name: &FileName,
+    desk: &mut D,
+) -> Result<Stated, NoMemory>
+    requires { IfSome upper (λ bound. pos 0 ≤ℤ bound) }
+    ensures model { IfOk result (IsModelTaken (reading_of layout upper) name.now (D.faults desk.old) (desk_faults (D.faults desk.new) (D.fault_at desk.new)) (D.left desk.old name.now)) }
+    ensures left { IfOk result (λ stated. IsRead stated → D.left desk.new name.now ≡ option_map (untaken most_bytes) (D.left desk.old name.now)) }
+    ensures others { SameButAt name.now (D.left desk.old) (D.left desk.new) }
+    ensures outputs { Same (D.written desk.old) (D.written desk.new) }
+    ensures said { D.said desk.new ≡ D.said desk.old }
+    ensures later { D.faults desk.old ≤ D.faults desk.new }
+    ensures calm { IfOk result (LeavesCalm (desk_faults (D.faults desk.old) (D.fault_at desk.old)) (desk_faults (D.faults desk.new) (D.fault_at desk.new))) }
+    ensures take { FailsInTake (desk_faults (D.faults desk.old) (D.fault_at desk.old)) (desk_faults (D.faults desk.new) (D.fault_at desk.new)) }
 {
-    if text.len() > MOST_TEXT_BYTES {
-        return line_reply(alloc, Status::TooLong(Input::ModelText), b"LIMIT MODEL");
+    match take_text(alloc, desk, name.text(), MOST_TEXT_BYTES) {
+        Ok(text) => state(alloc, layout, upper, &text),
+        Err(TakeStop::Failed) => Ok(Stated::Stopped(line_reply(
+            alloc,
+            Status::ReadFault,
+            b"READFAULT",
+        )?)),
+        Err(TakeStop::NoMemory) => Err(NoMemory),
     }
-    let model = match read(alloc, layout, upper, text) {
-        Ok(model) => model,
-        Err(ReadStop::Fault(fault)) => return text_reply(alloc, fault),
-        Err(ReadStop::NoMemory) => return Err(NoMemory),
-    };
-    search_model(alloc, &model, nodes)
 }
 
-// Takes the text of the model from the desk, solves the model that it states, and puts the proof.
+// Takes the text of a proof from the desk, and checks it over the integer rows of a model.
+fn take_proof<D: Desk>(
+    alloc: Global,
+    rows: &IntRows,
+    name: &FileName,
+    desk: &mut D,
+) -> Result<Reply, NoMemory>
+    ensures reply { (model : Model) → rows.now ≡ integer_rows model → HasRows model → IfOk result (Replies
+        (IsTried name.now (D.faults desk.old) (desk_faults (D.faults desk.new) (D.fault_at desk.new)) (D.left desk.old name.now) (λ text. Checks text model))) }
+    ensures left { IfOk result (λ reply. IsOfProof reply.status → D.left desk.new name.now ≡ option_map (untaken most_proof_bytes) (D.left desk.old name.now)) }
+    ensures others { SameButAt name.now (D.left desk.old) (D.left desk.new) }
+    ensures outputs { Same (D.written desk.old) (D.written desk.new) }
+    ensures said { D.said desk.new ≡ D.said desk.old }
+    ensures later { D.faults desk.old ≤ D.faults desk.new }
+    ensures calm { IfOk result (StaysCalm (desk_faults (D.faults desk.old) (D.fault_at desk.old)) (desk_faults (D.faults desk.new) (D.fault_at desk.new))) }
+    ensures take { FailsInTake (desk_faults (D.faults desk.old) (D.fault_at desk.old)) (desk_faults (D.faults desk.new) (D.fault_at desk.new)) }
+{
+    match take_text(alloc, desk, name.text(), MOST_PROOF_BYTES) {
+        Ok(text) => check_text(alloc, rows, &text),
+        Err(TakeStop::Failed) => line_reply(alloc, Status::ReadFault, b"READFAULT"),
+        Err(TakeStop::NoMemory) => Err(NoMemory),
+    }
+}
+
+// Takes the model, solves it, and puts the proof.
 fn solve_file<D: Desk>(
     alloc: Global,
     layout: Layout,
@@ -54,28 +91,56 @@ fn solve_file<D: Desk>(
 ) -> Result<Reply, DeskStop>
     requires upper { IfSome upper (λ bound. pos 0 ≤ℤ bound) }
     requires some { 1 ≤ nodes }
-    ensures reason { (words : List (List ℕ)) (command : Solve) → command_of words ≡ Some command → command.options ≡ options layout upper nodes
-        → command.model ≡ model.now → command.proof ≡ proof.now → IsReplied
+    requires few { nodes ≤ most_nodes }
+    ensures reason { (words : List (List ℕ)) → command_of words ≡ Some (job (solving nodes) layout upper model.now proof.now) → IsReplied
         (run_given words (D.left desk.old) (D.written desk.old) (D.faults desk.old))
         (desk_faults (D.faults desk.new) (D.fault_at desk.new)) (D.written desk.new) result }
-    ensures others { SameButAt model.now (D.left desk.old) (D.left desk.new) }
-    ensures taken { IfOk result (λ reply. IsJudged reply.status → D.left desk.new model.now ≡ option_map (drop most_taken) (D.left desk.old model.now)) }
+    ensures inputs { (words : List (List ℕ)) → command_of words ≡ Some (job (solving nodes) layout upper model.now proof.now) → MatchResult result
+        (λ reply. TakesInput (run_given words (D.left desk.old) (D.written desk.old) (D.faults desk.old)) (D.left desk.new) reply.status)
+        (λ _. TakesInput (run_given words (D.left desk.old) (D.written desk.old) (D.faults desk.old)) (D.left desk.new) Status.NoMemory) }
     ensures said { D.said desk.new ≡ D.said desk.old }
     ensures later { D.faults desk.old ≤ D.faults desk.new }
     ensures calm { IfOk result (StaysCalm (desk_faults (D.faults desk.old) (D.fault_at desk.old)) (desk_faults (D.faults desk.new) (D.fault_at desk.new))) }
     ensures take { FailsAsTold result (desk_faults (D.faults desk.old) (D.fault_at desk.old)) (desk_faults (D.faults desk.new) (D.fault_at desk.new)) }
 {
-    let text = match take_text(alloc, desk, model.text()) {
-        Ok(text) => text,
-        Err(TakeStop::Failed) => return Ok(line_reply(alloc, Status::ReadFault, b"READFAULT")?),
-        Err(TakeStop::NoMemory) => return Err(DeskStop::NoMemory),
-    };
-    let reply = solve(alloc, layout, upper, nodes, &text)?;
-    put_proof(alloc, desk, proof.text(), &reply.proof)?;
-    Ok(reply)
+    match take_model(alloc, layout, upper, model, desk)? {
+        Stated::Stopped(reply) => Ok(reply),
+        Stated::Rows(model, rows) => {
+            let reply = search_model(alloc, &model, &rows, nodes)?;
+            put_proof(alloc, desk, proof.text(), &reply.proof)?;
+            Ok(reply)
+        }
+    }
 }
 
-// What is to be said to the words, once the proof is put.
+// Takes the model, and then the proof, and checks it.
+fn check_files<D: Desk>(
+    alloc: Global,
+    layout: Layout,
+    upper: Option<i128>,
+    model: &FileName,
+    proof: &FileName,
+    desk: &mut D,
+) -> Result<Reply, DeskStop>
+    requires { IfSome upper (λ bound. pos 0 ≤ℤ bound) }
+    ensures reason { (words : List (List ℕ)) → command_of words ≡ Some (job checking layout upper model.now proof.now) → IsReplied
+        (run_given words (D.left desk.old) (D.written desk.old) (D.faults desk.old))
+        (desk_faults (D.faults desk.new) (D.fault_at desk.new)) (D.written desk.new) result }
+    ensures inputs { (words : List (List ℕ)) → command_of words ≡ Some (job checking layout upper model.now proof.now) → MatchResult result
+        (λ reply. TakesInput (run_given words (D.left desk.old) (D.written desk.old) (D.faults desk.old)) (D.left desk.new) reply.status)
+        (λ _. TakesInput (run_given words (D.left desk.old) (D.written desk.old) (D.faults desk.old)) (D.left desk.new) Status.NoMemory) }
+    ensures said { D.said desk.new ≡ D.said desk.old }
+    ensures later { D.faults desk.old ≤ D.faults desk.new }
+    ensures calm { IfOk result (StaysCalm (desk_faults (D.faults desk.old) (D.fault_at desk.old)) (desk_faults (D.faults desk.new) (D.fault_at desk.new))) }
+    ensures take { FailsAsTold result (desk_faults (D.faults desk.old) (D.fault_at desk.old)) (desk_faults (D.faults desk.new) (D.fault_at desk.new)) }
+{
+    match take_model(alloc, layout, upper, model, desk)? {
+        Stated::Stopped(reply) => Ok(reply),
+        Stated::Rows(_, rows) => Ok(take_proof(alloc, &rows, proof, desk)?),
+    }
+}
+
+// What is to be said to the words, once a proof is put or checked.
 fn reply_to<D: Desk>(alloc: Global, words: &Vec<String>, desk: &mut D) -> Result<Reply, DeskStop>
     ensures reason { IsReplied
         (run_given (map string_bytes words.now.items) (D.left desk.old) (D.written desk.old) (D.faults desk.old))
@@ -101,6 +166,12 @@ fn reply_to<D: Desk>(alloc: Global, words: &Vec<String>, desk: &mut D) -> Result
             model,
             proof,
         } => solve_file(alloc, layout, upper, nodes, &model, &proof, desk),
+        Command::Check {
+            layout,
+            upper,
+            model,
+            proof,
+        } => check_files(alloc, layout, upper, &model, &proof, desk),
     }
 }
 
@@ -119,7 +190,8 @@ fn say<D: Desk>(desk: &mut D, report: &[u8], status: Status) -> Status
     }
 }
 
-/// Runs the command that the words spell: takes its inputs from the desk, puts the proof, says the report, and answers the status.
+/// Runs the command that the words spell: takes its inputs from the desk, puts the proof of a model that it solved, says the
+/// report, and answers the status.
 pub fn run<D: Desk>(alloc: Global, words: &Vec<String>, desk: &mut D) -> Status
     // Each status has its reason, what is said is its report, and what is put into PROOF is its proof.
     ensures answer { Answer
@@ -127,7 +199,12 @@ pub fn run<D: Desk>(alloc: Global, words: &Vec<String>, desk: &mut D) -> Status
         (desk_faults (D.faults desk.new) (D.fault_at desk.new)) (D.written desk.new)
         (D.said desk.old) (D.said desk.new) result }
 
-    // The words and the text of the model decide the status, unless a fault rises or memory runs out.
+    // The headline: OPTIMAL, INFEASIBLE and ACCEPTED are true of the model that MODEL states.
+    ensures headline { Headline
+        (run_given (map string_bytes words.now.items) (D.left desk.old) (D.written desk.old) (D.faults desk.old)) (D.written desk.new)
+        (D.said desk.old) (D.said desk.new) result }
+
+    // The words, the text of the model and that of a proof to be checked decide the status, unless a fault rises or memory runs out.
     ensures complete { IsComplete
         (run_given (map string_bytes words.now.items) (D.left desk.old) (D.written desk.old) (D.faults desk.old))
         (desk_faults (D.faults desk.new) (D.fault_at desk.new)) result }

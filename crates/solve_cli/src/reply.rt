@@ -3,16 +3,17 @@ ghost use Rattle.std.specs.Prelude.{◌≡◌, ◌++◌, ◌∷◌, [], IfOk};
 ghost use Rattle.whole_rows.specs.WholeRows.{Meets};
 ghost use Rattle.int_model.specs.IntegerRows.{value_in};
 ghost use Rattle.solve_cli.specs.declared.proof.Proof.TheVariants.{Nothing};
-ghost use Rattle.solve_cli.specs.Report.{report_of, found_lines, limit_line, IsPartOf, text_line};
+ghost use Rattle.solve_cli.specs.Report.{report_of, found_lines, limit_line, IsPartOf, text_line, reject_line};
 
 use crate::counts::Counts;
 use crate::proof::Proof;
-use crate::report::{found_report, limit_report, line_report, text_report};
+use crate::report::{found_report, limit_report, line_report, reject_report, text_report};
 use crate::status::Status;
 use int_model::{IntRows, Model, Part};
 use mps_model::TextFault;
 use sequence::NoMemory;
 use std::alloc::Global;
+use tree_checker::Reject;
 
 /// A status, the report that is to be said with it, and the proof that is to be put before.
 #[derive(Debug, Drop)]
@@ -77,4 +78,17 @@ pub(crate) fn point_report(
     let value = rows.value(point);
     let columns = model.columns.items();
     found_report(alloc, head, &value, columns, point, counts)
+}
+
+/// The reply to a proof that is refused.
+pub(crate) fn reject_reply(alloc: Global, reject: Reject) -> Result<Reply, NoMemory>
+    ensures status { IfOk result (λ reply. reply.status ≡ Status.Rejected reject) }
+    ensures report { IfOk result (λ reply. reply.report.items ≡ report_of (reject_line reject ∷ [])) }
+    ensures proof { IfOk result (λ reply. reply.proof ≡ Nothing) }
+{
+    Ok(Reply {
+        status: Status::Rejected(reject),
+        report: reject_report(alloc, reject)?,
+        proof: Proof::Nothing,
+    })
 }

@@ -1,7 +1,7 @@
 //! The report of a run.
-ghost use Rattle.std.specs.Prelude.{◌≡◌, ◌++◌, ◌∷◌, [], pos, IfOk, OnOk, decimal};
+ghost use Rattle.std.specs.Prelude.{◌≡◌, ◌++◌, ◌∷◌, [], pos, IfOk, OnOk, codes, decimal};
 ghost use Rattle.std.specs.Fmt.{signed_decimal};
-ghost use Rattle.solve_cli.specs.Report.{report_of, fraction_text, point_lines, best_lines, count_lines, bare_lines, found_lines, limit_line, IsPartOf, text_line, name_of};
+ghost use Rattle.solve_cli.specs.Report.{report_of, fraction_text, point_lines, best_lines, count_lines, bare_lines, found_lines, limit_line, IsPartOf, text_line, name_of, reject_name, reject_line};
 
 use crate::counts::Counts;
 use frac128::Frac;
@@ -10,6 +10,7 @@ use itoa::Buffer;
 use mps_model::{FaultKind, TextFault};
 use sequence::NoMemory;
 use std::alloc::Global;
+use tree_checker::{Reject, RejectKind};
 
 // Puts bytes and a line feed at the end.
 fn put_line(text: &mut Vec<u8>, line: &[u8]) -> Result<(), NoMemory>
@@ -40,6 +41,15 @@ fn put_fraction(text: &mut Vec<u8>, fraction: &Frac) -> Result<(), NoMemory>
         put_number(text, denominator)?;
     }
     Ok(())
+}
+
+// Puts the line of a value at the end.
+fn put_value(text: &mut Vec<u8>, value: &Frac) -> Result<(), NoMemory>
+    ensures { OnOk result (text.new.items ≡ text.old.items ++ report_of ((codes "VALUE " ++ fraction_text value.now) ∷ [])) }
+{
+    text.extend_from_slice(b"VALUE ")?;
+    put_fraction(text, value)?;
+    put_line(text, b"")
 }
 
 // Puts the line of a column at the end: its value and its name.
@@ -93,9 +103,7 @@ pub(crate) fn found_report(
 {
     let mut text = Vec::new(alloc);
     put_line(&mut text, head)?;
-    text.extend_from_slice(b"VALUE ")?;
-    put_fraction(&mut text, value)?;
-    put_line(&mut text, b"")?;
+    put_value(&mut text, value)?;
     put_points(&mut text, columns, point)?;
     put_counts(&mut text, counts)?;
     Ok(text)
@@ -185,5 +193,46 @@ pub(crate) fn text_report(alloc: Global, fault: TextFault) -> Result<Vec<u8>, No
     text.push(b' ')?;
     let mut buffer = Buffer::new();
     put_line(&mut text, buffer.format(fault.line).as_bytes())?;
+    Ok(text)
+}
+
+/// The report of a line and a value.
+pub(crate) fn value_report(alloc: Global, head: &[u8], value: &Frac) -> Result<Vec<u8>, NoMemory>
+    ensures { IfOk result (λ text. text.items ≡ report_of (head.now ∷ (codes "VALUE " ++ fraction_text value.now) ∷ [])) }
+{
+    let mut text = Vec::new(alloc);
+    put_line(&mut text, head)?;
+    put_value(&mut text, value)?;
+    Ok(text)
+}
+
+// The name that is printed for the kind of a line that is refused.
+fn reject_kind_name(kind: RejectKind) -> &'static str
+    ensures { result.now ≡ reject_name kind }
+{
+    match kind {
+        RejectKind::LongLine => "LongLine",
+        RejectKind::Short => "Short",
+        RejectKind::Tail => "Tail",
+        RejectKind::Head => "Head",
+        RejectKind::Claim => "Claim",
+        RejectKind::Point => "Point",
+        RejectKind::Record => "Record",
+        RejectKind::Number => "Number",
+        RejectKind::Depth => "Depth",
+        RejectKind::Weight => "Weight",
+        RejectKind::Cut => "Cut",
+        RejectKind::Refute => "Refute",
+    }
+}
+
+/// The report of a proof that is refused: the kind and the number of its first line that does not pass.
+pub(crate) fn reject_report(alloc: Global, reject: Reject) -> Result<Vec<u8>, NoMemory>
+    ensures { IfOk result (λ text. text.items ≡ report_of (reject_line reject ∷ [])) }
+{
+    let mut text = Vec::from_slice(alloc, b"REJECTED ")?;
+    text.extend_from_slice(reject_kind_name(reject.kind).as_bytes())?;
+    text.push(b' ')?;
+    put_count(&mut text, reject.line)?;
     Ok(text)
 }

@@ -1,22 +1,25 @@
 //! The search of a model.
-ghost use Rattle.std.specs.Prelude.{◌≡◌, ◌≤◌, true, IfOk};
-ghost use Rattle.whole_rows.specs.WholeRows.{IsWithinLimits};
-ghost use Rattle.proof_tree.specs.Found.{IsFound};
+ghost use Rattle.std.specs.Prelude.{◌≡◌, ◌≤◌, ◌<◌, ◌^◌, ℕ, true, IfOk, IfSome};
+ghost use Rattle.whole_rows.specs.WholeRows.{Meets, IsWithinLimits};
+ghost use Rattle.proof_tree.specs.Found.{IsFound, IsDone, IsSpent};
+ghost use Rattle.proof_tree.specs.Counts.{records, records_of_part};
 ghost use Rattle.plain_slices.specs.PlainMoves.{IsPlainAnswer};
-ghost use Rattle.mps_model.specs.ModelLimits.{KeepsLimits};
-ghost use Rattle.solve_cli.specs.Verdict.{Solves};
-ghost use Rattle.solve_cli.specs.Solving.{Replies};
+ghost use Rattle.int_model.specs.IntegerRows.{integer_rows};
+ghost use Rattle.solve_cli.specs.Words.{most_nodes};
+ghost use Rattle.solve_cli.specs.Verdict.{rows_of, Solves};
+ghost use Rattle.solve_cli.specs.Solving.{HasRows, Replies};
 
 use crate::brancher::{PlainBrancher, PlainPlace};
 use crate::counts::{count_part, count_tree};
 use crate::proof::Proof;
-use crate::reply::{Reply, limit_reply, point_report};
+use crate::reply::{Reply, point_report};
 use crate::report::bare_report;
 use crate::status::Status;
-use int_model::{IntRows, Model, RowsStop};
+use int_model::{IntRows, Model};
 use proof_text::Claim;
-use proof_tree::{Searched, search};
+use proof_tree::{PartTree, Searched, Tree, search};
 use sequence::NoMemory;
+use spaces::{Original, Vect};
 use std::alloc::Global;
 use whole_rows::DenseRows;
 
@@ -32,47 +35,79 @@ fn search_rows(alloc: Global, rows: &DenseRows, nodes: u32) -> Result<Searched, 
     search(alloc, &mut brancher, PlainPlace, rows, nodes)
 }
 
-/// Searches a model with a budget of so many nodes.
-pub(crate) fn search_model(alloc: Global, model: &Model, nodes: u32) -> Result<Reply, NoMemory>
-    requires limits { KeepsLimits model.now }
+// The reply to a search that was finished.
+fn done_reply(
+    alloc: Global,
+    model: &Model,
+    rows: &IntRows,
+    tree: Tree,
+    best: Option<Vect<Original>>,
+) -> Result<Reply, NoMemory>
+    requires rows { rows.now ≡ integer_rows model.now }
+    requires known { IfSome best (Meets rows.now.whole) }
+    requires counted { records tree < 2 ^ 64 }
+    ensures { (nodes : ℕ) → nodes ≤ most_nodes → HasRows model.now → IsWithinLimits (rows_of model.now) → IsDone (IsPlainAnswer (rows_of model.now)) (rows_of model.now) true nodes tree best
+        → IfOk result (Replies (Solves nodes model.now)) }
+{
+    let counts = count_tree(&tree);
+    match best {
+        Some(point) => Ok(Reply {
+            status: Status::Optimal,
+            report: point_report(alloc, b"OPTIMAL", model, rows, point.items(), counts)?,
+            proof: Proof::Whole(Claim::Optimal(point), tree),
+        }),
+        None => Ok(Reply {
+            status: Status::Infeasible,
+            report: bare_report(alloc, b"INFEASIBLE", counts)?,
+            proof: Proof::Whole(Claim::Infeasible, tree),
+        }),
+    }
+}
+
+// The reply to a search whose budget was spent.
+fn spent_reply(
+    alloc: Global,
+    model: &Model,
+    rows: &IntRows,
+    part: PartTree,
+    best: Option<Vect<Original>>,
+) -> Result<Reply, NoMemory>
+    requires rows { rows.now ≡ integer_rows model.now }
+    requires known { IfSome best (Meets rows.now.whole) }
+    requires counted { records_of_part part < 2 ^ 64 }
+    ensures { (nodes : ℕ) → HasRows model.now → IsSpent (IsPlainAnswer (rows_of model.now)) (rows_of model.now) true nodes part best
+        → IfOk result (Replies (Solves nodes model.now)) }
+{
+    let counts = count_part(&part);
+    match best {
+        Some(point) => Ok(Reply {
+            status: Status::Spent,
+            report: point_report(alloc, b"SPENT", model, rows, point.items(), counts)?,
+            proof: Proof::Part(part),
+        }),
+        None => Ok(Reply {
+            status: Status::Spent,
+            report: bare_report(alloc, b"SPENT", counts)?,
+            proof: Proof::Part(part),
+        }),
+    }
+}
+
+/// Searches a model, by its integer rows, with a budget of so many nodes.
+pub(crate) fn search_model(
+    alloc: Global,
+    model: &Model,
+    rows: &IntRows,
+    nodes: u32,
+) -> Result<Reply, NoMemory>
+    requires rows { rows.now ≡ integer_rows model.now }
+    requires has { HasRows model.now }
     requires some { 1 ≤ nodes }
+    requires few { nodes ≤ most_nodes }
     ensures { IfOk result (Replies (Solves nodes model.now)) }
 {
-    let rows = match IntRows::of(alloc, model) {
-        Ok(rows) => rows,
-        Err(RowsStop::Large(part)) => return limit_reply(alloc, model, part),
-        Err(RowsStop::NoMemory) => return Err(NoMemory),
-    };
     match search_rows(alloc, rows.whole(), nodes)? {
-        Searched::Done { tree, best } => {
-            let counts = count_tree(&tree);
-            match best {
-                Some(point) => Ok(Reply {
-                    status: Status::Optimal,
-                    report: point_report(alloc, b"OPTIMAL", model, &rows, point.items(), counts)?,
-                    proof: Proof::Whole(Claim::Optimal(point), tree),
-                }),
-                None => Ok(Reply {
-                    status: Status::Infeasible,
-                    report: bare_report(alloc, b"INFEASIBLE", counts)?,
-                    proof: Proof::Whole(Claim::Infeasible, tree),
-                }),
-            }
-        }
-        Searched::Spent { part, best } => {
-            let counts = count_part(&part);
-            match best {
-                Some(point) => Ok(Reply {
-                    status: Status::Spent,
-                    report: point_report(alloc, b"SPENT", model, &rows, point.items(), counts)?,
-                    proof: Proof::Part(part),
-                }),
-                None => Ok(Reply {
-                    status: Status::Spent,
-                    report: bare_report(alloc, b"SPENT", counts)?,
-                    proof: Proof::Part(part),
-                }),
-            }
-        }
+        Searched::Done { tree, best } => done_reply(alloc, model, rows, tree, best),
+        Searched::Spent { part, best } => spent_reply(alloc, model, rows, part, best),
     }
 }

@@ -3,12 +3,15 @@ ghost use Rattle.std.specs.Prelude.{◌≡◌};
 
 use int_model::Part;
 use mps_model::TextFault;
+use tree_checker::Reject;
 
 /// An input of a run.
 #[derive(Clone, Copy, Debug, Drop, PartialEq, Eq)]
 pub enum Input {
     /// The text of the model.
     ModelText,
+    /// The text of the proof that is checked.
+    ProofText,
 }
 
 /// What a run answers.
@@ -18,6 +21,8 @@ pub enum Status {
     Optimal,
     /// The model has no point.
     Infeasible,
+    /// The proof is accepted: what it claims is true of the model.
+    Accepted,
     /// As many nodes were worked as the budget has, and some node is open.
     Spent,
     /// The words are no command.
@@ -34,6 +39,8 @@ pub enum Status {
     WriteFault,
     /// No memory was left.
     NoMemory,
+    /// The proof is refused, at this line.
+    Rejected(Reject),
 }
 
 impl Status {
@@ -44,7 +51,7 @@ impl Status {
         ensures { result ≡ code_of self.now }
     {
         match self {
-            Status::Optimal => 0,
+            Status::Optimal | Status::Accepted => 0,
             Status::Infeasible => 1,
             Status::Spent => 2,
             Status::Words => 3,
@@ -53,6 +60,7 @@ impl Status {
             Status::ReadFault => 6,
             Status::WriteFault => 7,
             Status::NoMemory => 8,
+            Status::Rejected(_) => 9,
         }
     }
 }

@@ -323,7 +323,15 @@ fn words_are_obeyed(rt: HostRuntime) -> Result<(), Fail> {
         ("solve --nodes 1001 m p", TWO_COINS, 3, "WORDS\n"),
         ("solve --nodes 5 --nodes 5 m p", TWO_COINS, 3, "WORDS\n"),
         ("solve --lanes 1 m p", TWO_COINS, 3, "WORDS\n"),
-        ("check m p", TWO_COINS, 3, "WORDS\n"),
+        ("check m p", PRICED, 4, "TEXT NoUpper 6\n"),
+        ("check --upper 9 other p", PRICED, 6, "READFAULT\n"),
+        ("check --upper 9 m p", PRICED, 6, "READFAULT\n"),
+        ("check --fixed m p", TWO_COINS, 4, "TEXT Byte 3\n"),
+        ("check m m", TWO_COINS, 3, "WORDS\n"),
+        ("check m", TWO_COINS, 3, "WORDS\n"),
+        ("check --nodes 3 m p", TWO_COINS, 3, "WORDS\n"),
+        ("check solve m p", TWO_COINS, 3, "WORDS\n"),
+        ("prove m p", TWO_COINS, 3, "WORDS\n"),
     ] {
         let mut desk = MemDesk::new(alloc);
         desk.add_input("m", text.as_bytes())?;
@@ -358,18 +366,22 @@ fn words_are_read(rt: HostRuntime) -> Result<(), Fail> {
             1000,
         ),
     ] {
-        let Command::Solve {
-            layout: read_layout,
-            upper: read_upper,
-            nodes: read_nodes,
-            model,
-            proof,
-        } = read_words(alloc, &words(alloc, line)?)?;
-        assert!(rt; read_layout == layout, "in {line}");
-        assert!(rt; read_upper == upper, "in {line}");
-        assert_eq!(rt; read_nodes, nodes, "in {line}");
-        assert_eq!(rt; model.text().as_bytes(), "model.mps".as_bytes());
-        assert_eq!(rt; proof.text().as_bytes(), "proof.txt".as_bytes());
+        match read_words(alloc, &words(alloc, line)?)? {
+            Command::Solve {
+                layout: read_layout,
+                upper: read_upper,
+                nodes: read_nodes,
+                model,
+                proof,
+            } => {
+                assert!(rt; read_layout == layout, "in {line}");
+                assert!(rt; read_upper == upper, "in {line}");
+                assert_eq!(rt; read_nodes, nodes, "in {line}");
+                assert_eq!(rt; model.text().as_bytes(), "model.mps".as_bytes());
+                assert_eq!(rt; proof.text().as_bytes(), "proof.txt".as_bytes());
+            }
+            Command::Check { .. } => assert!(rt; false, "{line} is no check"),
+        }
     }
     Ok(())
 }
@@ -626,6 +638,126 @@ fn faults_are_answered(rt: HostRuntime) -> Result<(), Fail> {
         assert!(rt;
             code != 7 || desk.said().is_empty(),
             "where call {call} fails"
+        );
+    }
+    Ok(())
+}
+
+// What a check says of a proof, and how it ends.
+fn check_says(
+    alloc: Global,
+    model: &str,
+    proof: &[u8],
+    failing: u64,
+) -> Result<(u8, Vec<u8>), Fail> {
+    let mut desk = MemDesk::new(alloc);
+    desk.add_input("m", model.as_bytes())?;
+    desk.add_input("p", proof)?;
+    desk.fail_call(failing)?;
+    let status = run(alloc, &words(alloc, "check m p")?, &mut desk);
+    Ok((status.code(), desk.said().to_vec(alloc)?))
+}
+
+#[test]
+fn a_check_takes_the_model_and_then_the_proof(rt: HostRuntime) -> Result<(), Fail> {
+    let alloc = rt.alloc();
+    // Each text is taken in one call, and the next call finds its end. The fifth call says the report.
+    for (model, failing, code, report) in [
+        (TWO_COINS, 1, 6, "READFAULT\n"),
+        (TWO_COINS, 2, 6, "READFAULT\n"),
+        (TWO_COINS, 3, 6, "READFAULT\n"),
+        (TWO_COINS, 4, 6, "READFAULT\n"),
+        (TWO_COINS, 5, 7, ""),
+        (PRICED, 3, 7, ""),
+        (PRICED, 4, 4, "TEXT NoUpper 6\n"),
+        ("ROWS\nCOLUMNS\n x r 1\n", 4, 4, "TEXT UnknownRow 3\n"),
+    ] {
+        let (ended, said) = check_says(alloc, model, b"SLICER 1\n", failing)?;
+        assert_eq!(rt; ended, code, "where call {failing} fails");
+        assert_eq!(rt;
+            said.as_slice(),
+            report.as_bytes(),
+            "where call {failing} fails"
+        );
+    }
+    Ok(())
+}
+
+const WORKED_PROOF: &str =
+    "SLICER 1\nOPTIMAL 4 0\nS T 2 0 1:1\nB Z-20:3 0:5 8:2\nA Z-20:1 2:5 8:6\nDONE\n";
+
+#[test]
+fn proofs_are_checked(rt: HostRuntime) -> Result<(), Fail> {
+    let alloc = rt.alloc();
+    for (model, old, new, code, report) in [
+        (
+            TWO_CONSTRAINTS,
+            "DONE",
+            "DONE",
+            0,
+            "ACCEPTED OPTIMAL\nVALUE -20\n",
+        ),
+        (TWO_CONSTRAINTS, "0:5", "0:6", 9, "REJECTED Refute 4\n"),
+        (TWO_CONSTRAINTS, "0:5", "0:05", 9, "REJECTED Number 4\n"),
+        (TWO_CONSTRAINTS, "0:5", "0:0", 9, "REJECTED Number 4\n"),
+        (TWO_CONSTRAINTS, "Z-20:3", "Z-21:3", 9, "REJECTED Cut 4\n"),
+        (TWO_CONSTRAINTS, "4 0\n", "3 1\n", 9, "REJECTED Cut 4\n"),
+        (
+            TWO_CONSTRAINTS,
+            "OPTIMAL 4 0",
+            "INFEASIBLE",
+            9,
+            "REJECTED Cut 4\n",
+        ),
+        (TWO_CONSTRAINTS, "4 0\n", "4 1\n", 9, "REJECTED Point 2\n"),
+        (TWO_CONSTRAINTS, "4 0\n", "+4 0\n", 9, "REJECTED Claim 2\n"),
+        (TWO_CONSTRAINTS, "2 0 1", "2 1 1", 9, "REJECTED Record 6\n"),
+        (
+            TWO_CONSTRAINTS,
+            "A Z-20:1 2:5 8:6\n",
+            "",
+            9,
+            "REJECTED Record 5\n",
+        ),
+        (TWO_CONSTRAINTS, "DONE\n", "", 9, "REJECTED Short 6\n"),
+        (
+            TWO_CONSTRAINTS,
+            "DONE\n",
+            "DONE\n\n",
+            9,
+            "REJECTED Tail 7\n",
+        ),
+        (TWO_COINS, "DONE", "DONE", 9, "REJECTED Point 2\n"),
+    ] {
+        let proof = WORKED_PROOF.replace(alloc, old, new)?;
+        let (ended, said) = check_says(alloc, model, proof.as_bytes(), 0)?;
+        assert_eq!(rt; ended, code, "of {proof}");
+        assert_eq!(rt; said.as_slice(), report.as_bytes(), "to {proof}");
+    }
+    Ok(())
+}
+
+#[test]
+fn a_proof_that_is_put_is_accepted(rt: HostRuntime) -> Result<(), Fail> {
+    let alloc = rt.alloc();
+    for (model, report) in [
+        (EMPTY, "ACCEPTED OPTIMAL\nVALUE 0\n"),
+        (TWO_COINS, "ACCEPTED OPTIMAL\nVALUE 0\n"),
+        (TWO_CONSTRAINTS, "ACCEPTED OPTIMAL\nVALUE -20\n"),
+        (HALVES, "ACCEPTED OPTIMAL\nVALUE -3/2\n"),
+        (PARITY_PAIR, "ACCEPTED INFEASIBLE\n"),
+        (SPLIT_FREE, "ACCEPTED INFEASIBLE\n"),
+        // A part of a proof claims nothing.
+        (EVEN_SUM_FAR, "REJECTED Claim 2\n"),
+    ] {
+        let mut desk = MemDesk::new(alloc);
+        desk.add_input("m", model.as_bytes())?;
+        run(alloc, &words(alloc, "solve m p")?, &mut desk);
+        let (_, said) = check_says(alloc, model, desk.written("p"), 0)?;
+        assert_eq!(rt;
+            said.as_slice(),
+            report.as_bytes(),
+            "to the proof of {model}"
         );
     }
     Ok(())

@@ -1,16 +1,14 @@
 //! The command that a list of words spells.
-ghost use Rattle.std.specs.Prelude.{◌≡◌, ◌≤◌, true, IfOk, IfSome, length, map, option_and_then, string_bytes};
+ghost use Rattle.std.specs.Prelude.{◌≡◌, ◌≤◌, true, IfOk, IfSome, length, map, option_and_then, option_map, string_bytes};
 ghost use Rattle.std.specs.List.{list_all};
 ghost use Rattle.mps_fields.specs.Decimal.{is_digit as digit, is_digits as digits};
-ghost use Rattle.solve_cli.specs.Words.{is_file_name as named_file, are_file_names as file_names, is_plain_number as plain_number, number_within, valued_option_of, first_option_of, words_in, with_option, settled, options_of, solve_of, none_chosen, command_of};
-ghost use Rattle.solve_cli.specs.Commands.{GivesCommand};
+ghost use Rattle.solve_cli.specs.Words.{are_file_names as file_names, is_plain_number as plain_number, number_within, valued_option_of, first_option_of, words_in, with_option, settled, options_of, files_of, solve_of, check_of, none_chosen, command_of};
+ghost use Rattle.solve_cli.specs.Commands.{GivesCommand, GivesFiles, job_view};
 ghost use Rattle.solve_cli.specs.declared.words.WordsStop.TheVariants.{NoMemory as no_memory};
 
+use crate::file_name::{FileName, is_file_name};
 use mps_model::Layout;
 use std::alloc::{AllocError, Global};
-use std::marker::Model;
-
-const MOST_NAME_BYTES: usize = 255;
 
 /// 2^62, the greatest upper bound that may be handed in.
 const MOST_UPPER: u64 = 4_611_686_018_427_387_904;
@@ -21,34 +19,7 @@ const MOST_NODES: u64 = 1_000;
 /// The budget of nodes where none is given.
 const DEFAULT_NODES: u32 = 1_000;
 
-/// The name of a file: 1 to 255 bytes that do not begin with `-`.
-#[derive(Debug, Drop)]
-pub struct FileName {
-    text: String,
-}
-
-impl Model for FileName {
-    ghost use Rattle.std.specs.Prelude.{◌≡◌, true, ℕ, List, string_bytes};
-    ghost use Rattle.solve_cli.specs.Words.{is_file_name};
-
-    ghost Value = { List ℕ };
-
-    ghost view = { λ name. string_bytes name.text };
-
-    ghost invariant = { λ name. is_file_name (string_bytes name.text) ≡ true };
-}
-
-impl FileName {
-    /// Lends the name.
-    pub fn text(&self) -> &str
-        ensures text { result.now ≡ self.now }
-        ensures short { length result.now ≤ 255 }
-    {
-        self.text.as_str()
-    }
-}
-
-/// An option of `solve`.
+/// An option of a command.
 #[derive(Clone, Copy, Debug, Drop, PartialEq, Eq)]
 pub(crate) enum SolveOption {
     Fixed,
@@ -57,7 +28,7 @@ pub(crate) enum SolveOption {
 }
 
 /// The options that were read so far.
-#[derive(Clone, Copy, Drop)]
+#[derive(Clone, Copy, Debug, Drop)]
 pub(crate) struct Chosen {
     layout: Layout,
     upper: Option<i128>,
@@ -133,6 +104,22 @@ pub enum Command {
         model: FileName,
         proof: FileName,
     },
+    /// Checks the proof in `proof` against the model that the text in `model` states, in this layout and with this upper bound
+    /// for the columns for which it gives none.
+    Check {
+        layout: Layout,
+        upper: Option<i128>,
+        model: FileName,
+        proof: FileName,
+    },
+}
+
+/// The options and the names of the two files behind the first word of a command.
+#[derive(Debug, Drop)]
+pub(crate) struct Files {
+    chosen: Chosen,
+    model: FileName,
+    proof: FileName,
 }
 
 /// Why words gave no command.
@@ -149,13 +136,6 @@ impl From<AllocError> for WordsStop {
     fn from(_: AllocError) -> Self {
         WordsStop::NoMemory
     }
-}
-
-fn is_file_name(word: &str) -> bool
-    ensures { result ≡ named_file word.now }
-{
-    let bytes = word.as_bytes();
-    !bytes.is_empty() && bytes.len() <= MOST_NAME_BYTES && bytes[0] != b'-'
 }
 
 fn are_file_names(model: &str, proof: &str) -> bool
@@ -247,18 +227,9 @@ fn read_options(words: &[String]) -> Option<Chosen>
     Some(given)
 }
 
-fn name(alloc: Global, word: &str) -> Result<FileName, AllocError>
-    requires { named_file word.now ≡ true }
-    ensures { IfOk result (λ name. name ≡ word.now) }
-{
-    Ok(FileName {
-        text: String::from_str(alloc, word)?,
-    })
-}
-
-// The command that the words behind `solve` spell: options in front of two names.
-fn read_solve(alloc: Global, words: &[String]) -> Result<Command, WordsStop>
-    ensures { GivesCommand result (solve_of (map string_bytes words.now)) }
+// What the words behind the first one spell: options in front of two names.
+fn read_files(alloc: Global, words: &[String]) -> Result<Files, WordsStop>
+    ensures { GivesFiles result (files_of (map string_bytes words.now)) }
 {
     let (options, names) = words.split_at(words.len().saturating_sub(2));
     let [model, proof] = names else {
@@ -271,12 +242,47 @@ fn read_solve(alloc: Global, words: &[String]) -> Result<Command, WordsStop>
     let Some(chosen) = read_options(options) else {
         return Err(WordsStop::Words);
     };
-    Ok(Command::Solve {
+    Ok(Files {
+        chosen,
+        model: FileName::of(alloc, model)?,
+        proof: FileName::of(alloc, proof)?,
+    })
+}
+
+fn solve_command(files: Files) -> Command
+    ensures { job_view result ≡ solve_of files }
+{
+    let Files {
+        chosen,
+        model,
+        proof,
+    } = files;
+    Command::Solve {
         layout: chosen.layout,
         upper: chosen.upper,
         nodes: chosen.nodes.unwrap_or(DEFAULT_NODES),
-        model: name(alloc, model)?,
-        proof: name(alloc, proof)?,
+        model,
+        proof,
+    }
+}
+
+// None where a budget is chosen, which a check does not have.
+fn check_command(files: Files) -> Option<Command>
+    ensures { option_map job_view result ≡ check_of files }
+{
+    if files.chosen.nodes.is_some() {
+        return None;
+    }
+    let Files {
+        chosen,
+        model,
+        proof,
+    } = files;
+    Some(Command::Check {
+        layout: chosen.layout,
+        upper: chosen.upper,
+        model,
+        proof,
     })
 }
 
@@ -285,7 +291,17 @@ pub fn read_words(alloc: Global, words: &Vec<String>) -> Result<Command, WordsSt
     ensures { GivesCommand result (command_of (map string_bytes words.now.items)) }
 {
     match words.as_slice() {
-        [word, rest @ ..] if word.as_str() == "solve" => read_solve(alloc, rest),
+        [word, rest @ ..] if word.as_str() == "solve" => {
+            let files = read_files(alloc, rest)?;
+            Ok(solve_command(files))
+        }
+        [word, rest @ ..] if word.as_str() == "check" => {
+            let files = read_files(alloc, rest)?;
+            match check_command(files) {
+                Some(command) => Ok(command),
+                None => Err(WordsStop::Words),
+            }
+        }
         _ => Err(WordsStop::Words),
     }
 }

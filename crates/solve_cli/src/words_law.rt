@@ -1,10 +1,10 @@
 //! The commands as they are written. The function here does nothing; its contract carries the law.
 ghost use Rattle.std.specs.Prelude.{◌≡◌, ◌↔◌, ℕ, List, Some};
-ghost use Rattle.solve_cli.specs.Words.{Solve, Spells, command_of};
+ghost use Rattle.solve_cli.specs.Words.{Job, Spells, command_of};
 
-/// Words are read as a command exactly where they are that command written down: `solve`, options in any order, each at
-/// most once, an upper bound in its shortest decimal digits, and two different names of files.
+/// Words are read as a command exactly where they are that command written down: `solve` or `check`, the command's options in any
+/// order, each at most once, numbers in their shortest decimal digits, and two different names of files.
 pub fn command_is_spelled()
-    ensures read { (words : List (List ℕ)) (command : Solve) → (command_of words ≡ Some command) ↔ Spells words command }
-    ensures one { (words : List (List ℕ)) (one other : Solve) → Spells words one → Spells words other → one ≡ other }
+    ensures read { (words : List (List ℕ)) (command : Job) → (command_of words ≡ Some command) ↔ Spells words command }
+    ensures one { (words : List (List ℕ)) (one other : Job) → Spells words one → Spells words other → one ≡ other }
 {}

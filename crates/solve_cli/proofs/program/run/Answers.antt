@@ -5,6 +5,7 @@ use Rattle.solve_cli.specs.Answer.{run_given, desk_faults}
 use Rattle.solve_cli.specs.Outputs.{with_proof}
 use Rattle.solve_cli.specs.Solving.{output_of, IsReplied}
 use Rattle.solve_cli.proofs.AnswerLaws.{run_answers, takes_said, completes, calm_said, last_said}
+use Rattle.solve_cli.proofs.HeadlineLaws.{headline}
 use Rattle.solve_cli.proofs.program.run.Goals as goal
 
 pub returns-in-Ok-clause-answer : goal.returns-in-Ok-clause-answer
@@ -13,6 +14,9 @@ returns-in-Ok-clause-answer g c =
     let lines = replied.reason.0.0 in
     run_answers _ _ _ _ _ c.in-Ok.reply.status c.say.result (output_of c.in-Ok.reply lines) _ _ _ _ replied.later (c.deref.ensures.value ∙ replied.reason.0.1) replied.said replied.reason.0.2
     replied.reason.1 c.say.ensures.outputs c.say.ensures.said
+
+pub returns-in-Ok-clause-headline : goal.returns-in-Ok-clause-headline
+returns-in-Ok-clause-headline g c = headline _ _ _ _ _ c.say.result (returns-in-Ok-clause-answer g c)
 
 pub returns-in-Ok-clause-complete : goal.returns-in-Ok-clause-complete
 returns-in-Ok-clause-complete g c = completes _ _ _ _ _ c.say.result (returns-in-Ok-clause-answer g c)
@@ -37,3 +41,9 @@ returns-in-Err-NoMemory-clause-answer g c =
     let part = subst (λ stop. IsReplied given faults (g.D.Desk.written between) (Err stop)) c.in-Err-NoMemory.field-0-is replied.reason in
     run_answers given faults _ _ _ NoMemory c.say-in-Err-NoMemory.result (with_proof (codes "NOMEMORY" ∷ []) part.0) _ _ _ _ replied.later refl replied.said (record { report = refl; proof = part.1 })
     part.2 c.say-in-Err-NoMemory.ensures.outputs c.say-in-Err-NoMemory.ensures.said
+
+pub returns-in-Err-NoMemory-clause-headline : goal.returns-in-Err-NoMemory-clause-headline
+returns-in-Err-NoMemory-clause-headline g c = headline _ _ _ _ _ c.say-in-Err-NoMemory.result (returns-in-Err-NoMemory-clause-answer g c)
+
+pub returns-in-Err-NoMemory-clause-complete : goal.returns-in-Err-NoMemory-clause-complete
+returns-in-Err-NoMemory-clause-complete g c = completes _ _ _ _ _ c.say-in-Err-NoMemory.result (returns-in-Err-NoMemory-clause-answer g c)

@@ -5,9 +5,9 @@ use Rattle.std.specs.Prelude.{option_map}
 use Rattle.std.specs.Option.{ForSome}
 use Rattle.desk_io.specs.Desk.{TakesFrom}
 use Rattle.desk_io.specs.TakeLaws.{taken_more, taken_all}
-use Rattle.solve_cli.specs.Limits.{most_taken}
+use Rattle.solve_cli.specs.Limits.{taken, untaken}
 use Rattle.solve_cli.proofs.TakeLaws.{taken_front, is_front, is_behind}
-use Rattle.solve_cli.proofs.take.take_text.Goals.{then-loop-ended-test+else-len-lt-TAKEN_BYTES, else-loop-ended-test}
+use Rattle.solve_cli.proofs.take.take_text.Goals.{then-loop-ended-test+else-len-limit, else-loop-ended-test}
 use Rattle.solve_cli.proofs.take.take_text.Goals as goal
 
 pub loop-ended-preserved : goal.loop-ended-preserved
@@ -16,11 +16,11 @@ loop-ended-preserved g c =
     let took = c.in_ok-count.ensures in
     let n : ℕ = c.in_ok-count.count in
     let grown = taken_front c.loop-ended.text.items _ c.take.new.buf _ n took.count c.in_ok-extend_from_slice.ensures.items in
-    let has_room : (length c.loop-ended.text.items + length c.take.new.buf ≤ 16777217) × (0 < length c.take.new.buf) =
+    let has_room : (length c.loop-ended.text.items + length c.take.new.buf ≤ c.args.limit + 1) × (0 < length c.take.new.buf) =
     let a = c.take.auto.buf in
     let b = c.len-in-loop-ended.ensures in
     let d = c.len.ensures in
-    let e = c.if-len-lt-TAKEN_BYTES.true in
+    let e = c.if-len-limit.true in
     let f = length-take c.min-room.result c.loop-ended.piece in
     let m = c.min-room.ensures in
     (omega (arith, a, b, d, e, f, m, before.room), omega (arith, a, b, d, e, f, m, before.room)) in
@@ -43,15 +43,15 @@ loop-ended-preserved g c =
     }
 
 pub returns-clause-text : goal.returns-clause-text
-unfolding most_taken
+unfolding taken
 returns-clause-text g c =
-    is_front 16777217 c.loop-ended.text.items (g.D.Desk.left c.args.desk.now c.args.name.now) (g.D.Desk.left c.loop-ended.desk c.args.name.now) c.loop-ended.invariant.small
+    is_front (c.args.limit + 1) c.loop-ended.text.items (g.D.Desk.left c.args.desk.now c.args.name.now) (g.D.Desk.left c.loop-ended.desk c.args.name.now) c.loop-ended.invariant.small
     c.loop-ended.invariant.taken
-    (λ bytes told. elim c.loop-ended-test.branch [ then-loop-ended-test+else-len-lt-TAKEN_BYTES w ↦ inr (let a = w.len.ensures in let b = w.if-len-lt-TAKEN_BYTES.false in omega arith) | else-loop-ended-test w ↦ inl (c.loop-ended.invariant.ended bytes w.loop-ended-test.false told) ])
+    (λ bytes told. elim c.loop-ended-test.branch [ then-loop-ended-test+else-len-limit w ↦ inr (let a = w.len.ensures in let b = w.if-len-limit.false in omega arith) | else-loop-ended-test w ↦ inl (c.loop-ended.invariant.ended bytes w.loop-ended-test.false told) ])
 
 pub returns-clause-left : goal.returns-clause-left
-unfolding most_taken
+unfolding untaken
 returns-clause-left g c =
-    is_behind 16777217 c.loop-ended.text.items (g.D.Desk.left c.args.desk.now c.args.name.now) (g.D.Desk.left c.loop-ended.desk c.args.name.now) c.loop-ended.invariant.small
+    is_behind (c.args.limit + 1) c.loop-ended.text.items (g.D.Desk.left c.args.desk.now c.args.name.now) (g.D.Desk.left c.loop-ended.desk c.args.name.now) c.loop-ended.invariant.small
     c.loop-ended.invariant.taken c.loop-ended.invariant.untold
-    (λ bytes told. elim c.loop-ended-test.branch [ then-loop-ended-test+else-len-lt-TAKEN_BYTES w ↦ inr (let a = w.len.ensures in let b = w.if-len-lt-TAKEN_BYTES.false in omega arith) | else-loop-ended-test w ↦ inl (c.loop-ended.invariant.ended bytes w.loop-ended-test.false told) ])
+    (λ bytes told. elim c.loop-ended-test.branch [ then-loop-ended-test+else-len-limit w ↦ inr (let a = w.len.ensures in let b = w.if-len-limit.false in omega arith) | else-loop-ended-test w ↦ inl (c.loop-ended.invariant.ended bytes w.loop-ended-test.false told) ])

@@ -8,7 +8,7 @@ invariant-loop-ended g l =
     let left = g.D.Desk.left in
     record {
       room : length l.piece ≡ 4096;
-      small : length l.text.items ≤ 16777217;
+      small : length l.text.items ≤ l.limit + 1;
       taken : (bytes : List ℕ) → left l.initial.desk l.name ≡ Some bytes → IsTaken bytes l.text.items (left l.desk l.name);
       untold : left l.initial.desk l.name ≡ None → left l.desk l.name ≡ None;
       ended : (bytes : List ℕ) → l.ended ≡ true → left l.initial.desk l.name ≡ Some bytes → bytes ≡ l.text.items;
@@ -20,4 +20,4 @@ invariant-loop-ended g l =
     }
 
 abbrev pub decreases-loop-ended : goal.decreases-loop-ended
-decreases-loop-ended g l = 16777217 - length l.text.items + cond l.ended 0 1
+decreases-loop-ended g l = l.limit + 1 - length l.text.items + cond l.ended 0 1

@@ -1,0 +1,31 @@
+use Rattle.std.proofs.Common.{◌≡◌, ℕ, List, [], ◌∷◌, refl, sym, ap, subst, ◌∙◌}
+use Rattle.std.specs.Prelude.{IfSome, Some, Ok, Err, codes}
+use Rattle.desk_io.specs.Desk.{fault}
+use Rattle.desk_io.specs.declared.desk.Call.TheVariants.{Take}
+use Rattle.solve_cli.specs.declared.status.Status.TheVariants.{ReadFault}
+use Rattle.solve_cli.specs.Limits.{most_proof_bytes, taken}
+use Rattle.solve_cli.specs.Taking.{IsReadFault}
+use Rattle.solve_cli.specs.Verdict.{Checks}
+use Rattle.solve_cli.specs.Answer.{desk_faults}
+use Rattle.solve_cli.specs.Solving.{IsTried}
+use Rattle.solve_cli.proofs.SolveLaws.{replied_by}
+use Rattle.solve_cli.proofs.InputLaws.{proof_taken}
+use Rattle.solve_cli.proofs.program.take_proof.Goals as goal
+
+pub returns-in-Ok-clause-reply : goal.returns-in-Ok-clause-reply
+returns-in-Ok-clause-reply g c = λ model same has.
+    let left = g.D.Desk.left c.args.desk.now c.args.name.now in
+    let at_name = subst (λ name. IfSome (g.D.Desk.left c.args.desk.now name) (λ left. c.in-Ok.text.items ≡ taken most_proof_bytes left)) c.text.ensures.text c.in-Ok.ensures.text in
+    let front = subst (λ (text : List ℕ). IfSome left (λ bytes. text ≡ taken most_proof_bytes bytes)) (sym c.deref.ensures.value) at_name in
+    proof_taken c.args.name.now (g.D.Desk.faults c.args.desk.now) (desk_faults (g.D.Desk.faults c.take_text.new.desk) (g.D.Desk.fault_at c.take_text.new.desk)) left c.deref.result.now
+    model c.check_text.result front (c.check_text.ensures model same has)
+
+pub returns-in-Err-Failed-clause-reply : goal.returns-in-Err-Failed-clause-reply
+returns-in-Err-Failed-clause-reply g c = λ model same has.
+    let left = g.D.Desk.left c.args.desk.now c.args.name.now in
+    let failed = subst (λ stop. IsReadFault c.text.result.now (g.D.Desk.faults c.args.desk.now) (g.D.Desk.faults c.take_text.new.desk) (g.D.Desk.fault_at c.take_text.new.desk) (Err stop)) c.in-Err-Failed.field-0-is c.in-Err-Failed.ensures.failed in
+    let is = c.line_reply.ensures in
+    replied_by
+    (IsTried c.args.name.now (g.D.Desk.faults c.args.desk.now) (desk_faults (g.D.Desk.faults c.take_text.new.desk) (g.D.Desk.fault_at c.take_text.new.desk)) left (λ text. Checks text model))
+    ReadFault (codes "READFAULT" ∷ []) c.line_reply.result (record { rose = failed.0; last = failed.1 ∙ ap (λ name. Some (fault Take name)) c.text.ensures.text; report = refl })
+    is.status is.report is.proof
