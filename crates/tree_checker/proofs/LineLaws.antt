@@ -1,30 +1,25 @@
 -- What the words of a line of multipliers spell.
-use Rattle.std.proofs.Common.{◌≡◌, ◌≢◌, ℕ, zero, suc, ◌+◌, ◌*◌, ◌^◌, ◌<◌, ◌≤◌, ℤ, List, [], ◌∷◌, ◌++◌, length, get_or, map, All, Option, Some, None, IfSome, IsSome, decimal, option_map, option_to_list, refl, sym, ap, subst, ◌∙◌, arith, true≢false}
-use Rattle.std.specs.Fmt.{signed_decimal}
-use Rattle.std.proofs.lemmas.Int.{ints}
+use Rattle.std.proofs.Common.{◌≡◌, ◌≢◌, ℕ, ◌+◌, ◌*◌, ◌^◌, ◌<◌, ◌≤◌, List, [], ◌∷◌, ◌++◌, length, map, All, Option, Some, None, IfSome, IsSome, option_map, option_to_list, refl, sym, ap, ◌∙◌, arith}
 use Rattle.std.proofs.lemmas.List.Splits.{length-slice_split}
-use Rattle.std.proofs.lemmas.List.Elements.{All-nil, All-cons, All-head, All-tail, All-weaker}
-use Rattle.proof_tree.specs.Trees.{IsOfSize}
+use Rattle.std.proofs.lemmas.List.Elements.{All-nil, All-cons, All-head, All-tail}
 use Rattle.whole_rows.specs.WholeRows.{WholeRows, IsWithinLimits}
 use Rattle.farkas_rows.specs.declared.line.Use.{Use}
 use Rattle.farkas_rows.specs.declared.line.CutUse.{CutUse}
 use Rattle.farkas_rows.specs.declared.line.Line.{Line}
 use Rattle.farkas_rows.specs.declared.path.Slice.{Slice}
 use Rattle.farkas_rows.specs.Inequalities.{Inequality, inequalities, inequality_at}
-use Rattle.farkas_rows.specs.Refutes.{multipliers, line_of}
+use Rattle.farkas_rows.specs.Refutes.{multipliers}
 use Rattle.proof_text.specs.declared.items.Item.{Item}
 use Rattle.proof_text.specs.declared.items.Item.TheVariants as items
 use Rattle.proof_text.specs.Items.{SpellsItem}
-use Rattle.proof_text.specs.Shapes.{HasLineShape, IsToken, IsDigit, ArePairs}
+use Rattle.proof_text.specs.Shapes.{HasLineShape}
 use Rattle.proof_text.specs.Words.{is_blank, IsWord, words_of}
-use Rattle.proof_text.specs.WordLaws.{same_words, words_of-in, in_words-of}
-use Rattle.proof_text.specs.NumberLaws.{decimal-digits, decimal-same}
-use Rattle.proof_text.specs.TokenLaws.{decimal-token, signed-token, signed-same, token-cons}
+use Rattle.proof_text.specs.WordLaws.{words_of-in, in_words-of}
 use Rattle.proof_text.specs.PrintedShapes.{line_words-pairs}
 use Rattle.proof_text.specs.LineLengths.{inequalities-length, past}
 use Rattle.proof_text.specs.PairLaws.{pairs_words}
 use Rattle.proof_text.specs.OneLine.{IsSmallUse, same_use, same_cut_use, cut_is_no_use}
-use Rattle.proof_text.specs.Printable.{IsMultiplier, IsPrintableLine}
+use Rattle.proof_text.specs.Printable.{IsMultiplier}
 use Rattle.proof_text.specs.Spelling.{further, in_words, line_words, cut_word, use_word}
 use Rattle.tree_checker.specs.Lines.{SpellsLineOn, AreWordsOf}
 

@@ -1,8 +1,7 @@
 -- A line passes to one place at most, has no fault where it passes, and has one kind of fault at most.
-use Rattle.std.proofs.Common.{◌≡◌, ◌≢◌, ℕ, suc, ◌+◌, ◌*◌, ◌^◌, ◌<◌, ◌≤◌, ℤ, pos, ◌≤ℤ◌, List, [], ◌∷◌, length, get_or, map, All, codes, decimal, Option, Some, None, refl, sym, ap, subst, ◌∙◌, arith, inl, inr, ⊎_elim}
+use Rattle.std.proofs.Common.{◌≡◌, ◌≢◌, ℕ, ◌*◌, ◌^◌, ◌<◌, ◌≤◌, ℤ, List, [], ◌∷◌, length, get_or, map, All, codes, Option, Some, None, refl, sym, ap, subst, ◌∙◌, arith, inl, inr}
 use Rattle.std.specs.Fmt.{signed_decimal}
-use Rattle.std.proofs.lemmas.Int.{ints}
-use Rattle.std.proofs.lemmas.List.Elements.{All-nil, All-cons, All-head, All-tail, All-get_or}
+use Rattle.std.proofs.lemmas.List.Elements.{All-nil, All-cons, All-head, All-tail}
 use Rattle.whole_rows.specs.WholeRows.{WholeRows, IsWithinLimits, span}
 use Rattle.farkas_rows.specs.declared.line.CutUse.{CutUse}
 use Rattle.farkas_rows.specs.declared.line.Line.{Line}
@@ -13,7 +12,7 @@ use Rattle.proof_tree.specs.declared.tree.Mark.{Mark}
 use Rattle.proof_tree.specs.Trees.{IsOfSize, CutHolds}
 use Rattle.proof_text.specs.declared.claim.Claim.{Claim}
 use Rattle.proof_text.specs.declared.claim.Claim.TheVariants as claims
-use Rattle.proof_text.specs.Spelling.{pair, form_words, mark_word, claim_line}
+use Rattle.proof_text.specs.Spelling.{claim_line}
 use Rattle.proof_text.specs.Shapes.{IsNumberWord, HasLineShape, HasSplitShape}
 use Rattle.proof_text.specs.TokenLaws.{signed-number_word}
 use Rattle.proof_text.specs.OneLine.{one_line}
