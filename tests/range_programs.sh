@@ -1,6 +1,6 @@
 #!/usr/bin/env bash
-# Compares the answers of `range_dict` with those of the exact simplex, outside the gate and without any proof: market models of
-# 2 and 3 rows along random paths of slices, in some minutes. Each point and each line must pass its check, and each least and
+# Compares the answers of `range_dict` with those of the exact simplex, outside the gate and without any proof: market models and
+# models with ranges, along random paths of slices, in some minutes. Each point and each line must pass its check, and each least and
 # greatest value must be that of the exact simplex.
 set -euo pipefail
 top=$(cd "$(dirname "$0")/.." && pwd)
@@ -57,21 +57,38 @@ fn next(state: u64) -> u64 {
     48271 * state % 2147483647
 }
 
-// A market model: each row is half of the sum of its factors.
-fn market(alloc: Global, rows: usize, columns: usize, seed: u64) -> io::Result<DenseRows> {
+// Models of one kind: how many rows, columns and models, how far a row may be from its middle, and the greatest value of a
+// column.
+struct Kind {
+    rows: usize,
+    columns: usize,
+    models: u64,
+    slack: i128,
+    most: i128,
+}
+
+const KINDS: &[Kind] = &[
+    Kind { rows: 2, columns: 6, models: 5, slack: 0, most: 1 },
+    Kind { rows: 3, columns: 8, models: 2, slack: 0, most: 1 },
+    Kind { rows: 2, columns: 6, models: 3, slack: 9, most: 3 },
+];
+
+// A market model: each row is within the slack of half of the sum of its factors.
+fn market(alloc: Global, kind: &Kind, seed: u64) -> io::Result<DenseRows> {
     let mut state = seed;
-    let bounds = vec![in alloc; Bounds { low: 0, high: 1 }; columns]?;
+    let bounds = vec![in alloc; Bounds { low: -1, high: kind.most }; kind.columns]?;
     let mut model = DenseRows::new(alloc, bounds).ok().unwrap();
-    for _ in 0..rows {
+    for _ in 0..kind.rows {
         let mut factors = Vec::new(alloc);
         let mut sum = 0;
-        for _ in 0..columns {
+        for _ in 0..kind.columns {
             state = next(state);
             sum += i128::from(state % 100);
             factors.push(i128::from(state % 100))?;
         }
-        let half = Some(sum / 2);
-        model.push_row(&factors, half, half).ok().unwrap();
+        let low = sum / 2 - kind.slack;
+        let high = sum / 2 + kind.slack;
+        model.push_row(&factors, Some(low), Some(high)).ok().unwrap();
     }
     Ok(model)
 }
@@ -252,9 +269,9 @@ fn main(rt: HostRuntime) -> io::Result<()> {
         compared: 0,
         wrong: 0,
     };
-    for (rows, columns, seeds) in [(2usize, 6usize, 6u64), (2, 8, 3), (3, 10, 2)] {
-        for seed in 1..seeds + 1 {
-            let model = market(alloc, rows, columns, seed * 7919)?;
+    for kind in KINDS {
+        for seed in 1..kind.models + 1 {
+            let model = market(alloc, kind, seed * 7919)?;
             if walk(alloc, &model, seed * 104729, &mut tally).is_err() {
                 tally.given_up += 1;
             }

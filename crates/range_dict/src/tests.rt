@@ -83,9 +83,9 @@ fn root(alloc: Global, rows: &DenseRows) -> Result<Option<RangeDict>, RangeStop>
 
 /// Whether the extreme has the value of this fraction, and both its checks pass.
 fn has_value<'a>(
+    alloc: Global,
     rows: &'a DenseRows,
     end: &'a End<'a>,
-    alloc: Global,
     extreme: Extreme,
     fraction: (i128, i128),
 ) -> bool
@@ -122,7 +122,7 @@ fn is_least(
         return Ok(false);
     }
     let end = End::Below { form, lo };
-    Ok(has_value(rows, &end, alloc, extreme, fraction))
+    Ok(has_value(alloc, rows, &end, extreme, fraction))
 }
 
 /// Whether the greatest value of a form is this fraction, and nothing lies from `from` on.
@@ -141,7 +141,7 @@ fn is_greatest(
         return Ok(false);
     }
     let end = End::Above { form, from };
-    Ok(has_value(rows, &end, alloc, extreme, fraction))
+    Ok(has_value(alloc, rows, &end, extreme, fraction))
 }
 
 /// Whether no point has this value of the form.
