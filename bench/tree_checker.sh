@@ -89,3 +89,8 @@ EOF
 (cd "$work/crates/check_bench" && rt run > "$work/log" 2>&1) || { cat "$work/log"; exit 1; }
 grep '^check: ' "$work/log"
 awk '$1 == "pages" { now = $3; if (before) printf "memory: %d KB more than the text\n", (now - before) * 4; before = now }' "$work/log"
+
+# The same by the time that the processor worked, the making of the text included, for a machine that does other work too.
+TIMEFORMAT=%U
+seconds=$( { time "$work/crates/check_bench/out/check_bench" > "$work/again"; } 2>&1 )
+awk -v seconds="$seconds" '$1 == "check:" { printf "processor: %s s for three passes, %d MB/s\n", seconds, 3 * $2 / seconds / 1000000 }' "$work/again"
