@@ -53,7 +53,7 @@ done
 # Certificates that prove nothing: a bound that is too good, no split, another multiplier, an end that is missing.
 python3 tests/make_proof.py examples/boxes_43.mps >"$work/proof"
 python3 tools/to_vipr.py examples/boxes_43.mps "$work/proof" >"$work/vipr"
-for change in 's/^\(step7 L\) -1/\1 -2/' 's/^\(step14 .*\) 20 /\1 19 /' 's/DER 29/DER 28/; $d' \
+for change in 's/^\(step7 L\) 5/\1 4/' 's/^\(step14 .*\) 12 6 /\1 12 5 /' 's/DER 29/DER 28/; $d' \
     's/uns 14 13 16 15/uns 14 13 14 13/' 's/^row0 E 43/row0 E 44/' 's/RTP infeas/RTP range 1 1/'; do
     sed "$change" "$work/vipr" >"$work/changed"
     cmp -s "$work/vipr" "$work/changed" && fail "$change changes nothing"
