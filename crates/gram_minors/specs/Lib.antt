@@ -4,3 +4,4 @@ pub mod OrthogonalLaws
 pub mod MinorLaws
 pub mod GramStages
 pub mod WholeMinors
+pub mod ReducedLaws
