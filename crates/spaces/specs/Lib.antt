@@ -1,2 +1,4 @@
 pub mod Tables
+pub mod TableLaws
 pub mod Lending
+pub mod Multiples

@@ -1,5 +1,6 @@
 -- Matrices as one list, row after row.
 use Rattle.std.specs.Prelude.{◌≡◌, ℕ, ◌+◌, ◌*◌, List, ◌++◌, length, take, drop, replicate, refl}
+use Rattle.exact_vectors.specs.Matrices.{rows_of}
 use Rattle.std.specs.Coded.{Coded, code_by, coded×, coded_ℕ, coded_list}
 
 -- a matrix: how many rows it has, how many items each row has, and the items, row after row
@@ -20,6 +21,10 @@ filled rows width item = record { rows = rows; width = width; items = replicate 
 -- row `i`
 abbrev pub row_at : {A : Type 0} → Table A → ℕ → List A
 row_at t i = take t.width (drop (i * t.width) t.items)
+
+-- the rows in order
+abbrev pub rows_in : {A : Type 0} → Table A → List (List A)
+rows_in t = rows_of t.width t.rows t.items
 
 -- the matrix with `row` written over its row `i`; `row` has the matrix's width
 abbrev pub with_row : {A : Type 0} → Table A → ℕ → List A → Table A

@@ -3,6 +3,7 @@
 
 mod form;
 mod grid;
+mod multiple;
 #[cfg(test)]
 mod grid_tests;
 mod space;
