@@ -1,0 +1,3 @@
+pub mod OptionSteps
+pub mod NumberSteps
+pub mod NearestSteps

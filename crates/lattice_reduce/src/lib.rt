@@ -1,0 +1,5 @@
+//! Lattice reduction in whole numbers.
+#![tactic(auto)]
+
+mod conditions;
+mod numbers;

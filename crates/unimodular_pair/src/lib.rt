@@ -1,0 +1,6 @@
+//! Unimodular pairs.
+#![tactic(auto)]
+
+mod steps;
+
+pub use steps::{Step, Steps};
