@@ -1,3 +1,5 @@
 pub mod OptionSteps
 pub mod NumberSteps
 pub mod NearestSteps
+pub mod StepLaws
+pub mod ExchangeSteps

@@ -2,4 +2,5 @@
 #![tactic(auto)]
 
 mod conditions;
+mod exchange;
 mod numbers;
