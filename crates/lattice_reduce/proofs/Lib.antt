@@ -3,3 +3,4 @@ pub mod NumberSteps
 pub mod NearestSteps
 pub mod StepLaws
 pub mod ExchangeSteps
+pub mod StateSteps

@@ -4,3 +4,4 @@
 mod conditions;
 mod exchange;
 mod numbers;
+mod reduction;
