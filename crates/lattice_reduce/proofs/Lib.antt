@@ -4,3 +4,4 @@ pub mod NearestSteps
 pub mod StepLaws
 pub mod ExchangeSteps
 pub mod StateSteps
+pub mod CopySteps

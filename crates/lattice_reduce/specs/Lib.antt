@@ -1,3 +1,4 @@
 pub mod Numbers
 pub mod Reductions
 pub mod States
+pub mod Stops

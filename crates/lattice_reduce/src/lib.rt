@@ -3,5 +3,9 @@
 
 mod conditions;
 mod exchange;
+mod lattice;
 mod numbers;
+
 mod reduction;
+
+pub use lattice::{reduce, Reduced, ReduceExcuse, ReduceStop};

@@ -1,0 +1,38 @@
+-- A basis copied row by row, and where its reduction begins.
+use Rattle.std.proofs.Common.{◌≡◌, ℕ, ◌+◌, ◌*◌, ◌<◌, ◌≤◌, ℤ, List, [], length, get_or, set, sym, ap, ◌∙◌, subst, subst₂, arith, below_more, get_or-set_other, get_or-set_same}
+use Rattle.std.proofs.lemmas.List.{ext_get_or}
+use Rattle.exact_math.specs.Ring.{integers}
+use Rattle.gram_minors.specs.IndependenceLaws.{independent_positive}
+use Rattle.gram_minors.specs.Orthogonalisation.{IsIndependent}
+use Rattle.gram_minors.specs.WholeMinors.{ArePositive}
+use Rattle.lattice_reduce.proofs.StepLaws.{settled_none}
+use Rattle.lattice_reduce.specs.Numbers.{items_of}
+use Rattle.lattice_reduce.specs.States.{SettledTo}
+use Rattle.spaces.specs.TableLaws.{length-rows_in, rows_in-at, rows_in-with_row}
+use Rattle.spaces.specs.Tables.{Table, row_at, rows_in, with_row}
+
+-- one row more
+pub copied_more : (t s : Table ℤ) (i : ℕ) (row : List ℤ) → length t.items ≡ t.rows * t.width → i < t.rows → i < s.rows → length row ≡ t.width → row ≡ row_at s i
+    → ((j : ℕ) → j < i → get_or (rows_in t) j [] ≡ get_or (rows_in s) j []) → (j : ℕ) → j < i + 1 → get_or (rows_in (with_row t i row)) j [] ≡ get_or (rows_in s) j []
+copied_more t s i row size below below' long is done =
+    let long_rows = length-rows_in t in
+    subst (λ (l : List (List ℤ)). (j : ℕ) → j < i + 1 → get_or l j [] ≡ get_or (rows_in s) j []) (sym (rows_in-with_row t i row size below long))
+      (below_more _ _ (λ j lt. get_or-set_other (rows_in t) i j row [] (omega arith) ∙ done j lt) (get_or-set_same (rows_in t) i row [] (omega (arith, long_rows)) ∙ is ∙ sym (rows_in-at s i below')))
+
+-- all rows
+pub copied_all : (t s : Table ℤ) (i : ℕ) → t.rows ≡ s.rows → s.rows ≤ i → ((j : ℕ) → j < i → get_or (rows_in t) j [] ≡ get_or (rows_in s) j []) → rows_in t ≡ rows_in s
+copied_all t s i same past done =
+    let long = length-rows_in t in
+    ext_get_or [] (rows_in t) (rows_in s) (long ∙ same ∙ sym (length-rows_in s)) (λ j lt. done j (omega (arith, long, same)))
+
+-- a copy of independent rows, before its first number
+pub begun_settled : (t s : Table ℤ) (numbers : List ℤ) → t.rows ≡ s.rows → t.width ≡ s.width → rows_in t ≡ rows_in s → s.rows ≤ 256 → IsIndependent integers s.width (items_of (rows_in s)) s.rows → length numbers ≡ s.rows * s.rows → SettledTo t numbers 0
+begun_settled t s numbers rows width is few independent size = record {
+  stands = record {
+    few = subst (λ r. r ≤ 256) (sym rows) few;
+    size = size ∙ ap (λ r. r * r) (sym rows);
+    positive = subst₂ (λ w r. ArePositive w (items_of (rows_in t)) r) (sym width) (sym rows) (subst (λ (l : List (List ℤ)). ArePositive s.width (items_of l) s.rows) (sym is) (independent_positive s.width (items_of (rows_in s)) s.rows independent));
+    found = λ i j lt le. absurd (omega arith);
+  };
+  settled = settled_none t.width (items_of (rows_in t));
+}
