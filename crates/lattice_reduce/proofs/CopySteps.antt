@@ -1,14 +1,17 @@
 -- A basis copied row by row, and where its reduction begins.
-use Rattle.std.proofs.Common.{◌≡◌, ℕ, ◌+◌, ◌*◌, ◌<◌, ◌≤◌, ℤ, List, [], length, get_or, set, sym, ap, ◌∙◌, subst, subst₂, arith, below_more, get_or-set_other, get_or-set_same}
+use Rattle.std.proofs.Common.{◌≡◌, ℕ, ◌+◌, ◌*◌, ◌<◌, ◌≤◌, ℤ, List, [], ◌++◌, length, get_or, set, sym, ap, ◌∙◌, subst, subst₂, arith, below_more, get_or-set_other, get_or-set_same}
 use Rattle.std.proofs.lemmas.List.{ext_get_or}
 use Rattle.exact_math.specs.Ring.{integers}
 use Rattle.gram_minors.specs.IndependenceLaws.{independent_positive}
-use Rattle.gram_minors.specs.Orthogonalisation.{IsIndependent}
+use Rattle.gram_minors.specs.Orthogonalisation.{IsIndependent, IsLovaszReduced, rational_rows}
 use Rattle.gram_minors.specs.WholeMinors.{ArePositive}
-use Rattle.lattice_reduce.proofs.StepLaws.{settled_none}
+use Rattle.lattice_reduce.proofs.StepLaws.{settled_none, settled_reduced}
 use Rattle.lattice_reduce.specs.Numbers.{items_of}
-use Rattle.lattice_reduce.specs.States.{SettledTo}
+use Rattle.lattice_reduce.specs.States.{SettledTo, Stopped, Leaves}
+use Rattle.lattice_reduce.specs.Reductions.{Reduces, IsSettled}
+use Rattle.lattice_reduce.specs.Stops.{Excused}
 use Rattle.spaces.specs.TableLaws.{length-rows_in, rows_in-at, rows_in-with_row}
+use Rattle.unimodular_pair.specs.declared.steps.Step.{Step}
 use Rattle.spaces.specs.Tables.{Table, row_at, rows_in, with_row}
 
 -- one row more
@@ -36,3 +39,21 @@ begun_settled t s numbers rows width is few independent size = record {
   };
   settled = settled_none t.width (items_of (rows_in t));
 }
+
+-- a reduction that has settled all rows has a reduced basis
+pub reduced_end : (t s : Table ℤ) (numbers : List ℤ) (count : ℕ) → t.rows ≡ s.rows → t.width ≡ s.width → count ≡ s.rows → SettledTo t numbers count → IsLovaszReduced s.width (rational_rows (items_of (rows_in t))) s.rows
+reduced_end t s numbers count rows width same h =
+    let b = items_of (rows_in t) in
+    let positive : ArePositive s.width b s.rows = subst₂ (λ w r. ArePositive w b r) width rows h.stands.positive in
+    let settled : IsSettled s.width b s.rows = subst₂ (λ w r. IsSettled w b r) width same h.settled in
+    settled_reduced s.width b s.rows positive settled
+
+-- a reduction that has stopped has an excuse
+pub excused_end : (t s : Table ℤ) (start steps : List Step) → t.width ≡ s.width → rows_in t ≡ rows_in s → start ≡ [] → Stopped t start steps → Excused s.width (rows_in s) steps
+excused_end t s start steps width rows none stop =
+    let listed : steps ≡ stop.continues.more = stop.continues.added ∙ ap (λ l. l ++ stop.continues.more) none in
+    record {
+      end = stop.end;
+      reduces = subst (λ l. Reduces s.width (rows_in s) l stop.end) (sym listed) (subst₂ (λ w r. Reduces w r stop.continues.more stop.end) width rows stop.continues.legal);
+      leaves = subst (λ w. Leaves w stop.end) width stop.leaves;
+    }

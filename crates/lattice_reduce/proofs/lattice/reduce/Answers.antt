@@ -1,0 +1,12 @@
+use Rattle.std.proofs.Common.{◌≡◌, refl, ◌∙◌}
+use Rattle.lattice_reduce.proofs.CopySteps.{reduced_end, excused_end}
+use Rattle.lattice_reduce.proofs.lattice.reduce.Goals as goal
+
+pub returns-in-Ok-run-clause-reduced : goal.returns-in-Ok-run-clause-reduced
+returns-in-Ok-run-clause-reduced g c =
+    let moved = c.in-Ok-run.ensures.moved in
+    reduced_end c.run.new.self.basis c.args.basis.now c.run.new.self.numbers.items c.in-Ok.reduction.basis.rows (moved.same_rows ∙ c.in-Ok.ensures.height) (moved.same_width ∙ c.in-Ok.ensures.width) c.in-Ok.ensures.height c.in-Ok-run.ensures.settled
+
+pub returns-in-Err-Wide-clause-stop : goal.returns-in-Err-Wide-clause-stop
+returns-in-Err-Wide-clause-stop g c =
+    excused_end c.in-Ok.reduction.basis c.args.basis.now c.in-Ok.reduction.steps c.run.new.self.steps c.in-Ok.ensures.width c.in-Ok.ensures.rows c.in-Ok.ensures.steps (c.in-Err-Wide.ensures.wide c.in-Err-Wide.field-0-is)
