@@ -1,6 +1,0 @@
-//! Unimodular pairs.
-#![tactic(auto)]
-
-mod steps;
-
-pub use steps::{Step, Steps};
