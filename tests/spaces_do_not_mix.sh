@@ -14,15 +14,17 @@ for crate in sequence exact_math exact_vectors spaces; do
     done
 done
 
-# refuses CODE MESSAGE
+# refuses CODE MESSAGE [FILE]
 refuses() {
-    cp crates/spaces/src/form.rt "$copy/crates/spaces/src/form.rt"
-    printf '%s\n' "$1" >>"$copy/crates/spaces/src/form.rt"
+    file=crates/spaces/src/${3:-form.rt}
+    cp "$file" "$copy/$file"
+    printf '%s\n' "$1" >>"$copy/$file"
     said=$(cd "$copy/crates/spaces" && rt check 2>&1)
     if [[ $said != *"error[mismatched-types]: $2"* ]]; then
         printf 'not refused:\n%s\n%s\n' "$1" "$said"
         exit 1
     fi
+    cp "$file" "$copy/$file"
 }
 
 refuses 'pub fn at_another_space(form: &Form<crate::Original>, v: &Vect<crate::Kernel>) -> Result<i128, WideEntry>
@@ -44,4 +46,14 @@ refuses 'pub fn vector_for_a_form(form: &Form<crate::Original>) -> Result<i128, 
 {
     form.at(form)
 }' 'expected `&Vect<Original>`, found `&Form<Original>`'
-echo "four misuses do not compile"
+
+refuses 'pub fn pulled_form_of_another_space(
+    alloc: Global,
+    map: &Affine<crate::Work, crate::Original>,
+    form: &Form<crate::Kernel>,
+) -> Result<Pulled<crate::Work>, MapStop>
+    requires { length form.now ≡ length map.now.base }
+{
+    map.pull_back(alloc, form)
+}' 'expected `&Form<Original>`, found `&Form<Kernel>`' affine.rt
+echo "five misuses do not compile"

@@ -1,1 +1,2 @@
 pub mod MultipleSteps
+pub mod SumSteps
