@@ -1,5 +1,5 @@
 -- A basis copied row by row, and where its reduction begins.
-use Rattle.std.proofs.Common.{◌≡◌, ℕ, ◌+◌, ◌*◌, ◌<◌, ◌≤◌, ℤ, List, [], ◌++◌, length, get_or, set, sym, ap, ◌∙◌, subst, subst₂, arith, below_more, get_or-set_other, get_or-set_same}
+use Rattle.std.proofs.Common.{◌≡◌, ℕ, ◌+◌, ◌*◌, ◌<◌, ◌≤◌, ℤ, List, [], ◌++◌, length, get_or, set, sym, ap, ap₂, ◌∙◌, subst, subst₂, arith, below_more, get_or-set_other, get_or-set_same}
 use Rattle.std.proofs.lemmas.List.{ext_get_or}
 use Rattle.exact_math.specs.Ring.{integers}
 use Rattle.gram_minors.specs.IndependenceLaws.{independent_positive}
@@ -7,11 +7,13 @@ use Rattle.gram_minors.specs.Orthogonalisation.{IsIndependent, IsLovaszReduced, 
 use Rattle.gram_minors.specs.WholeMinors.{ArePositive}
 use Rattle.lattice_reduce.proofs.StepLaws.{settled_none, settled_reduced}
 use Rattle.lattice_reduce.specs.Numbers.{items_of}
-use Rattle.lattice_reduce.specs.States.{SettledTo, Stopped, Leaves}
-use Rattle.lattice_reduce.specs.Reductions.{Reduces, IsSettled}
+use Rattle.lattice_reduce.specs.States.{SettledTo, Moved, Stopped, Leaves}
+use Rattle.lattice_reduce.specs.Reductions.{Reduces, IsSettled, pair_behind}
 use Rattle.lattice_reduce.specs.Stops.{Excused}
 use Rattle.spaces.specs.TableLaws.{length-rows_in, rows_in-at, rows_in-with_row}
-use Rattle.unimodular_pair.specs.declared.steps.Step.{Step}
+use Rattle.unimodular_pair.specs.Gathering.{unit_vectors}
+use Rattle.unimodular_pair.specs.Pairs.{Matrices}
+use Rattle.unimodular_pair.specs.declared.step.Step.{Step}
 use Rattle.spaces.specs.Tables.{Table, row_at, rows_in, with_row}
 
 -- one row more
@@ -49,11 +51,25 @@ reduced_end t s numbers count rows width same h =
     settled_reduced s.width b s.rows positive settled
 
 -- a reduction that has stopped has an excuse
-pub excused_end : (t s : Table ℤ) (start steps : List Step) → t.width ≡ s.width → rows_in t ≡ rows_in s → start ≡ [] → Stopped t start steps → Excused s.width (rows_in s) steps
-excused_end t s start steps width rows none stop =
+pub excused_end : (t s : Table ℤ) (m : Matrices) (start steps : List Step) → t.width ≡ s.width → rows_in t ≡ rows_in s → m ≡ unit_vectors s.rows → start ≡ [] → Stopped t m start steps → Excused s.width (rows_in s) steps
+excused_end t s m start steps width rows unit none stop =
     let listed : steps ≡ stop.continues.more = stop.continues.added ∙ ap (λ l. l ++ stop.continues.more) none in
+    let count : length (rows_in s) ≡ s.rows = length-rows_in s in
+    let pair : stop.end_pair ≡ pair_behind (unit_vectors (length (rows_in s))) steps = stop.continues.moved ∙ ap₂ pair_behind (unit ∙ ap unit_vectors (sym count)) (sym listed) in
     record {
       end = stop.end;
       reduces = subst (λ l. Reduces s.width (rows_in s) l stop.end) (sym listed) (subst₂ (λ w r. Reduces w r stop.continues.more stop.end) width rows stop.continues.legal);
-      leaves = subst (λ w. Leaves w stop.end) width stop.leaves;
+      leaves = subst₂ (λ w p. Leaves w stop.end p) width pair stop.leaves;
     }
+
+-- the steps of a reduction that has ended
+pub moved_end : (t t' s : Table ℤ) (m m' : Matrices) (start steps : List Step) → m ≡ unit_vectors s.rows → start ≡ [] → Moved t m start t' m' steps → m' ≡ pair_behind (unit_vectors s.rows) steps
+moved_end t t' s m m' start steps unit none h =
+    let listed : steps ≡ h.continues.more = h.continues.added ∙ ap (λ l. l ++ h.continues.more) none in
+    h.continues.moved ∙ ap₂ pair_behind unit (sym listed)
+
+-- and its legality
+pub reduces_end : (t t' s : Table ℤ) (m m' : Matrices) (start steps : List Step) → t.width ≡ s.width → rows_in t ≡ rows_in s → start ≡ [] → Moved t m start t' m' steps → Reduces s.width (rows_in s) steps (rows_in t')
+reduces_end t t' s m m' start steps width rows none h =
+    let listed : steps ≡ h.continues.more = h.continues.added ∙ ap (λ l. l ++ h.continues.more) none in
+    subst (λ l. Reduces s.width (rows_in s) l (rows_in t')) (sym listed) (subst₂ (λ w r. Reduces w r h.continues.more (rows_in t')) width rows h.continues.legal)

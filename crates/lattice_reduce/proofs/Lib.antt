@@ -5,3 +5,4 @@ pub mod StepLaws
 pub mod ExchangeSteps
 pub mod StateSteps
 pub mod CopySteps
+pub mod ProductSteps
