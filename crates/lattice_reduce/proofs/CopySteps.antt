@@ -1,5 +1,5 @@
 -- A basis copied row by row, and where its reduction begins.
-use Rattle.std.proofs.Common.{◌≡◌, ℕ, ◌+◌, ◌*◌, ◌<◌, ◌≤◌, ℤ, List, [], ◌++◌, length, get_or, set, sym, ap, ap₂, ◌∙◌, subst, subst₂, arith, below_more, get_or-set_other, get_or-set_same}
+use Rattle.std.proofs.Common.{◌≡◌, ℕ, ◌+◌, ◌*◌, ◌<◌, ◌≤◌, ℤ, List, [], ◌++◌, length, get_or, sym, ap, ap₂, ◌∙◌, subst, subst₂, arith, below_more, get_or-set_other, get_or-set_same}
 use Rattle.std.proofs.lemmas.List.{ext_get_or}
 use Rattle.exact_math.specs.Ring.{integers}
 use Rattle.gram_minors.specs.IndependenceLaws.{independent_positive}
@@ -22,7 +22,7 @@ pub copied_more : (t s : Table ℤ) (i : ℕ) (row : List ℤ) → length t.item
 copied_more t s i row size below below' long is done =
     let long_rows = length-rows_in t in
     subst (λ (l : List (List ℤ)). (j : ℕ) → j < i + 1 → get_or l j [] ≡ get_or (rows_in s) j []) (sym (rows_in-with_row t i row size below long))
-      (below_more _ _ (λ j lt. get_or-set_other (rows_in t) i j row [] (omega arith) ∙ done j lt) (get_or-set_same (rows_in t) i row [] (omega (arith, long_rows)) ∙ is ∙ sym (rows_in-at s i below')))
+    (below_more _ _ (λ j lt. get_or-set_other (rows_in t) i j row [] (omega arith) ∙ done j lt) (get_or-set_same (rows_in t) i row [] (omega (arith, long_rows)) ∙ is ∙ sym (rows_in-at s i below')))
 
 -- all rows
 pub copied_all : (t s : Table ℤ) (i : ℕ) → t.rows ≡ s.rows → s.rows ≤ i → ((j : ℕ) → j < i → get_or (rows_in t) j [] ≡ get_or (rows_in s) j []) → rows_in t ≡ rows_in s

@@ -6,3 +6,4 @@ pub mod ExchangeSteps
 pub mod StateSteps
 pub mod CopySteps
 pub mod ProductSteps
+pub mod IndependentRows

@@ -1,5 +1,4 @@
-use Rattle.std.proofs.Common.{◌≡◌, pos, SFits, FitsSigned, negsuc, ◌+ℤ◌, ◌-ℤ◌, ◌*ℤ◌, ◌≤ℤ◌, ◌<ℤ◌, to_z-of_z, rules, sym, ap₂, subst, ◌∙◌, arith}
-use Rattle.std.proofs.lemmas.Int.{ints}
+use Rattle.std.proofs.Common.{◌≡◌, pos, SFits, negsuc, ◌+ℤ◌, ◌-ℤ◌, ◌*ℤ◌, ◌≤ℤ◌, ◌<ℤ◌, to_z-of_z, rules, sym, ap₂, subst, ◌∙◌}
 use Rattle.std.specs.Int.{w128}
 use Rattle.exact_math.specs.IntegerRing.{linear}
 use Rattle.lattice_reduce.proofs.NearestSteps.{quotient_and_rest, rest_bounds, difference_fits, complement_fits, nearest_above, nearest_below, option_of_neg}

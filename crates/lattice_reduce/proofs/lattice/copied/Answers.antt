@@ -1,4 +1,4 @@
-use Rattle.std.proofs.Common.{◌≡◌, ◌<◌, ◌≤◌, length, sym, ◌∙◌, ap, arith}
+use Rattle.std.proofs.Common.{◌<◌, length, sym, ◌∙◌, ap, arith}
 use Rattle.lattice_reduce.proofs.CopySteps.{copied_more, copied_all}
 use Rattle.spaces.specs.TableLaws.{length-with_row}
 use Rattle.lattice_reduce.proofs.lattice.copied.Goals as goal

@@ -1,4 +1,4 @@
-use Rattle.std.proofs.Common.{◌≡◌, refl, ◌∙◌}
+use Rattle.std.proofs.Common.{◌∙◌}
 use Rattle.lattice_reduce.proofs.CopySteps.{reduced_end, excused_end, moved_end, reduces_end}
 use Rattle.lattice_reduce.proofs.ProductSteps.{product_end}
 use Rattle.spaces.specs.Tables.{rows_in}
