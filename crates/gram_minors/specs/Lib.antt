@@ -1,0 +1,10 @@
+pub mod Orthogonalisation
+pub mod GramStages
+pub mod Changes
+pub mod Multivectors
+pub mod OrthogonalLaws
+pub mod MinorLaws
+pub mod WholeMinors
+pub mod ReducedLaws
+pub mod ChangeLaws
+pub mod IndependenceLaws

@@ -1,0 +1,75 @@
+-- A basis copied row by row, and where its reduction begins.
+use Rattle.std.proofs.Common.{◌≡◌, ℕ, ◌+◌, ◌*◌, ◌<◌, ◌≤◌, ℤ, List, [], ◌++◌, length, get_or, sym, ap, ap₂, ◌∙◌, subst, subst₂, arith, below_more, get_or-set_other, get_or-set_same}
+use Rattle.std.proofs.lemmas.List.{ext_get_or}
+use Rattle.exact_math.specs.Ring.{integers}
+use Rattle.gram_minors.specs.IndependenceLaws.{independent_positive}
+use Rattle.gram_minors.specs.Orthogonalisation.{IsIndependent, IsLovaszReduced, rational_rows}
+use Rattle.gram_minors.specs.WholeMinors.{ArePositive}
+use Rattle.lattice_reduce.proofs.StepLaws.{settled_none, settled_reduced}
+use Rattle.lattice_reduce.specs.Numbers.{items_of}
+use Rattle.lattice_reduce.specs.States.{SettledTo, Moved, Stopped, Leaves}
+use Rattle.lattice_reduce.specs.Reductions.{Reduces, IsSettled, pair_behind}
+use Rattle.lattice_reduce.specs.Stops.{Excused}
+use Rattle.spaces.specs.TableLaws.{length-rows_in, rows_in-at, rows_in-with_row}
+use Rattle.unimodular_pair.specs.Gathering.{unit_vectors}
+use Rattle.unimodular_pair.specs.Pairs.{Matrices}
+use Rattle.unimodular_pair.specs.declared.step.Step.{Step}
+use Rattle.spaces.specs.Tables.{Table, row_at, rows_in, with_row}
+
+-- one row more
+pub copied_more : (t s : Table ℤ) (i : ℕ) (row : List ℤ) → length t.items ≡ t.rows * t.width → i < t.rows → i < s.rows → length row ≡ t.width → row ≡ row_at s i
+    → ((j : ℕ) → j < i → get_or (rows_in t) j [] ≡ get_or (rows_in s) j []) → (j : ℕ) → j < i + 1 → get_or (rows_in (with_row t i row)) j [] ≡ get_or (rows_in s) j []
+copied_more t s i row size below below' long is done =
+    let long_rows = length-rows_in t in
+    subst (λ (l : List (List ℤ)). (j : ℕ) → j < i + 1 → get_or l j [] ≡ get_or (rows_in s) j []) (sym (rows_in-with_row t i row size below long))
+    (below_more _ _ (λ j lt. get_or-set_other (rows_in t) i j row [] (omega arith) ∙ done j lt) (get_or-set_same (rows_in t) i row [] (omega (arith, long_rows)) ∙ is ∙ sym (rows_in-at s i below')))
+
+-- all rows
+pub copied_all : (t s : Table ℤ) (i : ℕ) → t.rows ≡ s.rows → s.rows ≤ i → ((j : ℕ) → j < i → get_or (rows_in t) j [] ≡ get_or (rows_in s) j []) → rows_in t ≡ rows_in s
+copied_all t s i same past done =
+    let long = length-rows_in t in
+    ext_get_or [] (rows_in t) (rows_in s) (long ∙ same ∙ sym (length-rows_in s)) (λ j lt. done j (omega (arith, long, same)))
+
+-- a copy of independent rows, before its first number
+pub begun_settled : (t s : Table ℤ) (numbers : List ℤ) → t.rows ≡ s.rows → t.width ≡ s.width → rows_in t ≡ rows_in s → s.rows ≤ 256 → IsIndependent integers s.width (items_of (rows_in s)) s.rows → length numbers ≡ s.rows * s.rows → SettledTo t numbers 0
+begun_settled t s numbers rows width is few independent size = record {
+  stands = record {
+    few = subst (λ r. r ≤ 256) (sym rows) few;
+    size = size ∙ ap (λ r. r * r) (sym rows);
+    positive = subst₂ (λ w r. ArePositive w (items_of (rows_in t)) r) (sym width) (sym rows) (subst (λ (l : List (List ℤ)). ArePositive s.width (items_of l) s.rows) (sym is) (independent_positive s.width (items_of (rows_in s)) s.rows independent));
+    found = λ i j lt le. absurd (omega arith);
+  };
+  settled = settled_none t.width (items_of (rows_in t));
+}
+
+-- a reduction that has settled all rows has a reduced basis
+pub reduced_end : (t s : Table ℤ) (numbers : List ℤ) (count : ℕ) → t.rows ≡ s.rows → t.width ≡ s.width → count ≡ s.rows → SettledTo t numbers count → IsLovaszReduced s.width (rational_rows (items_of (rows_in t))) s.rows
+reduced_end t s numbers count rows width same h =
+    let b = items_of (rows_in t) in
+    let positive : ArePositive s.width b s.rows = subst₂ (λ w r. ArePositive w b r) width rows h.stands.positive in
+    let settled : IsSettled s.width b s.rows = subst₂ (λ w r. IsSettled w b r) width same h.settled in
+    settled_reduced s.width b s.rows positive settled
+
+-- a reduction that has stopped has an excuse
+pub excused_end : (t s : Table ℤ) (m : Matrices) (start steps : List Step) → t.width ≡ s.width → rows_in t ≡ rows_in s → m ≡ unit_vectors s.rows → start ≡ [] → Stopped t m start steps → Excused s.width (rows_in s) steps
+excused_end t s m start steps width rows unit none stop =
+    let listed : steps ≡ stop.continues.more = stop.continues.added ∙ ap (λ l. l ++ stop.continues.more) none in
+    let count : length (rows_in s) ≡ s.rows = length-rows_in s in
+    let pair : stop.end_pair ≡ pair_behind (unit_vectors (length (rows_in s))) steps = stop.continues.moved ∙ ap₂ pair_behind (unit ∙ ap unit_vectors (sym count)) (sym listed) in
+    record {
+      end = stop.end;
+      reduces = subst (λ l. Reduces s.width (rows_in s) l stop.end) (sym listed) (subst₂ (λ w r. Reduces w r stop.continues.more stop.end) width rows stop.continues.legal);
+      leaves = subst₂ (λ w p. Leaves w stop.end p) width pair stop.leaves;
+    }
+
+-- the steps of a reduction that has ended
+pub moved_end : (t t' s : Table ℤ) (m m' : Matrices) (start steps : List Step) → m ≡ unit_vectors s.rows → start ≡ [] → Moved t m start t' m' steps → m' ≡ pair_behind (unit_vectors s.rows) steps
+moved_end t t' s m m' start steps unit none h =
+    let listed : steps ≡ h.continues.more = h.continues.added ∙ ap (λ l. l ++ h.continues.more) none in
+    h.continues.moved ∙ ap₂ pair_behind unit (sym listed)
+
+-- and its legality
+pub reduces_end : (t t' s : Table ℤ) (m m' : Matrices) (start steps : List Step) → t.width ≡ s.width → rows_in t ≡ rows_in s → start ≡ [] → Moved t m start t' m' steps → Reduces s.width (rows_in s) steps (rows_in t')
+reduces_end t t' s m m' start steps width rows none h =
+    let listed : steps ≡ h.continues.more = h.continues.added ∙ ap (λ l. l ++ h.continues.more) none in
+    subst (λ l. Reduces s.width (rows_in s) l (rows_in t')) (sym listed) (subst₂ (λ w r. Reduces w r h.continues.more (rows_in t')) width rows h.continues.legal)

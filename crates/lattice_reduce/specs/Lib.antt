@@ -1,0 +1,4 @@
+pub mod Numbers
+pub mod Reductions
+pub mod States
+pub mod Stops

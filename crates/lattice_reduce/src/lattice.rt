@@ -1,0 +1,110 @@
+//! The reduction of a basis.
+ghost use Rattle.std.specs.Prelude.{◌≡◌, ◌≤◌, [], length, IfErr, IfOk};
+ghost use Rattle.exact_math.specs.Ring.{integers};
+ghost use Rattle.exact_vectors.specs.Matrices.{times_matrix};
+ghost use Rattle.gram_minors.specs.Orthogonalisation.{IsIndependent, IsLovaszReduced, rational_rows};
+ghost use Rattle.lattice_reduce.specs.Numbers.{items_of};
+ghost use Rattle.lattice_reduce.specs.Reductions.{pair_behind, Reduces};
+ghost use Rattle.lattice_reduce.specs.States.{SettledTo};
+ghost use Rattle.lattice_reduce.specs.Stops.{StopsSo};
+ghost use Rattle.spaces.specs.Tables.{rows_in};
+ghost use Rattle.unimodular_pair.specs.Gathering.{unit_vectors};
+
+use crate::reduction::{Halt, Reduction};
+use sequence::{NoMemory, Sequence};
+use spaces::{Grid, Space};
+use std::alloc::Global;
+use unimodular_pair::{Pair, Steps};
+
+/// A reduced basis, the pair whose first matrix takes the old basis to it, and the steps that led to it.
+#[derive(Drop)]
+pub struct Reduced<S: Space> {
+    pub basis: Grid<S, i128>,
+    pub pair: Pair,
+    pub steps: Steps,
+}
+
+/// The steps after which a whole number of the reduction leaves `i128`.
+#[derive(Drop)]
+pub struct ReduceExcuse {
+    pub steps: Steps,
+}
+
+/// Why there is no reduced basis.
+#[derive(Drop)]
+pub enum ReduceStop {
+    Excuse(ReduceExcuse),
+    NoMemory,
+}
+
+// A copy of the matrix.
+fn copied<S: Space>(alloc: Global, basis: &Grid<S, i128>) -> Result<Grid<S, i128>, NoMemory>
+    ensures height { IfOk result (λ copy. copy.rows ≡ basis.now.rows) }
+    ensures width { IfOk result (λ copy. copy.width ≡ basis.now.width) }
+    ensures rows { IfOk result (λ copy. rows_in copy ≡ rows_in basis.now) }
+{
+    let count = basis.rows();
+    let width = basis.width();
+    let mut copy = Grid::filled(alloc, count, width, 0)?;
+    for i in 0..count {
+        copy.row_mut(i).copy_from_slice(basis.row(i));
+    }
+    Ok(copy)
+}
+
+// The reduction of this basis before its first step.
+fn begun<S: Space>(alloc: Global, basis: &Grid<S, i128>) -> Result<Reduction<S>, NoMemory>
+    requires few { basis.now.rows ≤ 256 }
+    requires independent { IsIndependent integers basis.now.width (items_of (rows_in basis.now)) basis.now.rows }
+    ensures settled { IfOk result (λ r. SettledTo r.basis r.numbers.items 0) }
+    ensures height { IfOk result (λ r. r.basis.rows ≡ basis.now.rows) }
+    ensures width { IfOk result (λ r. r.basis.width ≡ basis.now.width) }
+    ensures rows { IfOk result (λ r. rows_in r.basis ≡ rows_in basis.now) }
+    ensures pair { IfOk result (λ r. r.pair ≡ unit_vectors basis.now.rows) }
+    ensures size { IfOk result (λ r. length r.pair.u ≡ basis.now.rows) }
+    ensures steps { IfOk result (λ r. r.steps ≡ []) }
+{
+    let count = basis.rows();
+    let copy = copied(alloc, basis)?;
+    let pair = Pair::identity(alloc, count)?;
+    let numbers = vec![in alloc; 0i128; count * count]?;
+    Ok(Reduction {
+        basis: copy,
+        pair,
+        steps: Sequence::new(alloc),
+        numbers,
+    })
+}
+
+/// A reduced basis of the lattice that the rows span (Lenstra, Lenstra, Lovász 1982), by whole numbers alone (de Weger
+/// 1989).
+///
+/// `Excuse` comes only where its steps are legal, and a whole number of the reduction leaves `i128` after them.
+pub fn reduce<S: Space>(alloc: Global, basis: &Grid<S, i128>) -> Result<Reduced<S>, ReduceStop>
+    requires few { basis.now.rows ≤ 256 }
+    requires independent { IsIndependent integers basis.now.width (items_of (rows_in basis.now)) basis.now.rows }
+    ensures reduced { IfOk result (λ r. IsLovaszReduced basis.now.width (rational_rows (items_of (rows_in r.basis))) basis.now.rows) }
+    ensures legal { IfOk result (λ r. Reduces basis.now.width (rows_in basis.now) r.steps (rows_in r.basis)) }
+    ensures pair { IfOk result (λ r. r.pair ≡ pair_behind (unit_vectors basis.now.rows) r.steps) }
+    ensures product { IfOk result (λ r. rows_in r.basis ≡ times_matrix integers basis.now.width r.pair.u (rows_in basis.now)) }
+    ensures height { IfOk result (λ r. r.basis.rows ≡ basis.now.rows) }
+    ensures width { IfOk result (λ r. r.basis.width ≡ basis.now.width) }
+    ensures stop { IfErr result (λ stop. StopsSo basis.now.width (rows_in basis.now) stop) }
+{
+    let _size = basis.rows();
+    let mut reduction = match begun(alloc, basis) {
+        Ok(reduction) => reduction,
+        Err(NoMemory) => return Err(ReduceStop::NoMemory),
+    };
+    match reduction.run() {
+        Ok(()) => Ok(Reduced {
+            basis: reduction.basis,
+            pair: reduction.pair,
+            steps: reduction.steps,
+        }),
+        Err(Halt::Wide) => Err(ReduceStop::Excuse(ReduceExcuse {
+            steps: reduction.steps,
+        })),
+        Err(Halt::NoMemory) => Err(ReduceStop::NoMemory),
+    }
+}

@@ -1,0 +1,6 @@
+pub mod Pairs
+pub mod Moves
+pub mod Gathering
+pub mod Runs
+pub mod PairLaws
+pub mod GatheringLaws
