@@ -1,3 +1,4 @@
 pub mod ColumnSteps
 pub mod RowSteps
 pub mod PairSteps
+pub mod NearestSteps

@@ -1,7 +1,9 @@
 //! Pairs of square whole matrices that are each other's inverse, and their completion from a first row.
 #![tactic(auto)]
 
+mod choice;
 mod columns;
+mod nearest;
 mod pair;
 mod rows;
 mod step;
