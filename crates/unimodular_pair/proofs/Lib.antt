@@ -2,3 +2,4 @@ pub mod ColumnSteps
 pub mod RowSteps
 pub mod PairSteps
 pub mod NearestSteps
+pub mod GatherSteps

@@ -3,10 +3,13 @@
 
 mod choice;
 mod columns;
+mod complete;
+mod gathering;
 mod nearest;
 mod pair;
 mod rows;
 mod step;
 
+pub use complete::CompleteStop;
 pub use pair::Pair;
 pub use step::{Step, Steps};
