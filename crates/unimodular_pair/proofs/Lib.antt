@@ -3,3 +3,4 @@ pub mod RowSteps
 pub mod PairSteps
 pub mod NearestSteps
 pub mod GatherSteps
+pub mod CompleteSteps

@@ -9,7 +9,8 @@ mod nearest;
 mod pair;
 mod rows;
 mod step;
+mod stop;
 
-pub use complete::CompleteStop;
+pub use stop::CompleteStop;
 pub use pair::Pair;
 pub use step::{Step, Steps};
