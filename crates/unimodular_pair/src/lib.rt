@@ -1,10 +1,16 @@
 //! Pairs of square whole matrices that are each other's inverse, and their completion from a first row.
 #![tactic(auto)]
 
+mod choice;
 mod columns;
+mod complete;
+mod gathering;
+mod nearest;
 mod pair;
 mod rows;
 mod step;
+mod stop;
 
+pub use stop::CompleteStop;
 pub use pair::Pair;
 pub use step::{Step, Steps};
