@@ -14,3 +14,6 @@ mod stop;
 pub use stop::CompleteStop;
 pub use pair::Pair;
 pub use step::{Step, Steps};
+
+#[cfg(test)]
+mod tests;
