@@ -1,6 +1,6 @@
 -- The two sides of a row that cross refute the root.
-use Rattle.std.proofs.Common.{◌≡◌, ℕ, zero, suc, ◌+◌, ◌*◌, ◌^◌, ◌<◌, ◌≤◌, List, [], ◌∷◌, ◌++◌, length, get_or, map, ℤ, pos, neg_ℤ, ◌+ℤ◌, ◌*ℤ◌, ◌≤ℤ◌, ◌<ℤ◌, nat_abs, refl, sym, ap, ap₂, subst, subst₂, ◌∙◌, arith}
-use Rattle.std.specs.Prelude.{Option, Some, None, flat_map, option_map, All, IsSome, unwrap_or, sum_by}
+use Rattle.std.proofs.Common.{◌≡◌, ℕ, zero, suc, ◌+◌, ◌*◌, ◌^◌, ◌<◌, ◌≤◌, List, [], ◌∷◌, ◌++◌, length, get_or, ℤ, pos, neg_ℤ, ◌+ℤ◌, ◌*ℤ◌, ◌≤ℤ◌, ◌<ℤ◌, nat_abs, refl, sym, ap, ap₂, subst, subst₂, ◌∙◌, arith}
+use Rattle.std.specs.Prelude.{Option, Some, None, flat_map, option_map, IsSome, unwrap_or, sum_by}
 use Rattle.std.proofs.lemmas.List.Elements.{All-cons, All-nil, All-get_or}
 use Rattle.std.proofs.lemmas.List.Sums.{sum_by-cons}
 use Rattle.exact_math.specs.GcdLaws.{nat_abs-neg_ℤ}
@@ -11,7 +11,6 @@ use Rattle.whole_rows.specs.declared.bounds.Bounds.{Bounds}
 use Rattle.whole_rows.specs.WholeRows.{WholeRow, WholeRows, row_at, span, size_of_side, weight, IsWithinLimits}
 use Rattle.whole_rows.specs.WeightLaws.{factor_le_term, weight-row_at}
 use Rattle.farkas_rows.specs.declared.line.Use.{Use}
-use Rattle.farkas_rows.specs.declared.line.Line.{Line}
 use Rattle.farkas_rows.specs.Inequalities.{Inequality, at_most, at_least, inequality_at}
 use Rattle.presolve_map.specs.Roots.{HaveCrossed, HasCrossingSides, IsRootLine}
 use Rattle.farkas_rows.specs.Refutes.{nothing, weights, inequality_weight, line_of, ComesToNegative, Refutes}

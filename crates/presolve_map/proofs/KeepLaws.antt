@@ -1,6 +1,6 @@
 -- The points of the rows that are left are those of the rows.
-use Rattle.std.proofs.Common.{◌≡◌, ◌↔◌, ℕ, ◌<◌, ◌≤◌, Bool, true, false, List, [], ◌∷◌, length, map, ℤ, pos, ◌+ℤ◌, ◌-ℤ◌, ◌≤ℤ◌, refl, ap, sym, subst, ◌∙◌, arith}
-use Rattle.std.specs.Prelude.{Option, Some, None, IfSome, All, int_lt, ◌||◌}
+use Rattle.std.proofs.Common.{◌≡◌, Bool, true, false, List, [], ◌∷◌, length, map, ℤ, ◌+ℤ◌, ◌≤ℤ◌, refl, ap, sym, subst, ◌∙◌}
+use Rattle.std.specs.Prelude.{Option, Some, None, IfSome, All, ◌||◌}
 use Rattle.std.proofs.lemmas.List.{length-map}
 use Rattle.std.proofs.lemmas.List.Elements.{All-nil, All-cons, All-head, All-tail}
 use Rattle.std.proofs.lemmas.Slice.Zip.{AllZip-long}
@@ -13,7 +13,7 @@ use Rattle.whole_rows.specs.WholeRows.{WholeRow, WholeRows, LiesIn, MeetsRow, Me
 use Rattle.whole_rows.specs.Ends.{sum_at}
 use Rattle.whole_rows.specs.EndLaws.{least_sum, greatest_sum}
 use Rattle.spaces.specs.Maps.{AffineMap, image}
-use Rattle.presolve_map.specs.Selections.{select, positions}
+use Rattle.presolve_map.specs.Selections.{select}
 use Rattle.presolve_map.specs.Columns.{kept, kept_columns, is_open, open_flags, removed_values, removed_part, IsColumnMap}
 use Rattle.presolve_map.specs.ReducedRows.{ReducedRows, can_violate, falls_below, rises_above, moved_side, needed_flags, reduced_row, IsReduced}
 use Rattle.presolve_map.specs.Presolved.{KeepsPoints}

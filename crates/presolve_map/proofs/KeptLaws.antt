@@ -1,14 +1,12 @@
 -- What is kept is within the limits.
-use Rattle.std.proofs.Common.{◌≡◌, ℕ, Bool, ◌≤◌, ◌^◌, List, length, ℤ, refl, sym, ap, subst, ◌∙◌, arith}
+use Rattle.std.proofs.Common.{◌≡◌, Bool, ◌≤◌, ◌^◌, List, length, ℤ, refl, sym, subst, ◌∙◌, arith}
 use Rattle.std.specs.Prelude.{All}
 use Rattle.std.proofs.lemmas.List.{length-map}
 use Rattle.whole_rows.specs.declared.bounds.Bounds.{Bounds}
 use Rattle.whole_rows.specs.WholeRows.{WholeRows, reach, span, IsWithinLimits}
 use Rattle.whole_rows.specs.Ends.{lows}
-use Rattle.spaces.specs.Maps.{AffineMap}
-use Rattle.spaces.specs.Tables.{Table, rows_in}
-use Rattle.presolve_map.specs.Selections.{positions}
-use Rattle.presolve_map.specs.Columns.{is_open, open_flags, kept, kept_columns, removed_values, column_lines, IsColumnMap}
+use Rattle.spaces.specs.Tables.{Table}
+use Rattle.presolve_map.specs.Columns.{is_open, open_flags, kept, kept_columns, IsColumnMap}
 use Rattle.presolve_map.specs.Removed.{removed_bounds, lows-removed}
 use Rattle.presolve_map.specs.Placed.{IsPlaced}
 use Rattle.presolve_map.proofs.SelectLaws.{length-select, positions_le, All-select, span-select}

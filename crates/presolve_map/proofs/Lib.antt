@@ -7,3 +7,5 @@ pub mod ReduceLaws
 pub mod KeepLaws
 pub mod RootLaws
 pub mod KeptLaws
+pub mod LiftLaws
+pub mod ViolateLaws

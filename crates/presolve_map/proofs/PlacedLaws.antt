@@ -1,9 +1,8 @@
 -- The lines of the columns as they are placed one after another.
-use Rattle.std.proofs.Common.{◌≡◌, ◌≢◌, ℕ, zero, suc, ◌+◌, ◌-◌, ◌*◌, ◌<◌, ◌≤◌, Bool, true, false, List, [], ◌∷◌, ◌++◌, length, take, drop, get_or, set, ℤ, pos, refl, ap, sym, subst, ◌∙◌, add-one, zero-add, append_assoc, drop-cons, arith}
-use Rattle.std.specs.Prelude.{replicate}
+use Rattle.std.proofs.Common.{◌≡◌, ◌≢◌, ℕ, suc, ◌+◌, ◌-◌, ◌*◌, ◌<◌, ◌≤◌, Bool, true, false, List, [], ◌∷◌, ◌++◌, length, take, drop, get_or, set, ℤ, pos, refl, ap, sym, subst, ◌∙◌, add-one, zero-add, append_assoc, drop-cons, arith}
 use Rattle.std.proofs.Math.Nat.{mul-le-mul_right}
 use Rattle.std.proofs.Math.Seq.{take-suc, take-suc-set}
-use Rattle.std.proofs.lemmas.List.{take-replicate, drop-replicate, length-replicate, length-set, get_or-set_other, take_all, append-nil, drop_all}
+use Rattle.std.proofs.lemmas.List.{take-replicate, drop-replicate, length-replicate, get_or-set_other, take_all, append-nil, drop_all}
 use Rattle.exact_math.specs.Ring.{integers}
 use Rattle.exact_vectors.specs.Vectors.{zeros}
 use Rattle.farkas_rows.specs.Inequalities.{unit}
@@ -13,7 +12,7 @@ use Rattle.spaces.specs.TableLaws as Tables
 use Rattle.presolve_map.specs.Selections.{positions}
 use Rattle.presolve_map.specs.Columns.{column_lines}
 use Rattle.presolve_map.specs.Placed.{IsPlaced}
-use Rattle.presolve_map.proofs.SelectLaws.{positions-set, positions-unset, positions-end}
+use Rattle.presolve_map.proofs.SelectLaws.{positions-set, positions-unset}
 use Rattle.presolve_map.proofs.PointLaws.{count-any}
 
 -- the first `count` lines are those of the columns, and `place` of these are kept

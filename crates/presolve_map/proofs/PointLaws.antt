@@ -1,19 +1,18 @@
 -- Values of the kept columns and of all columns.
-use Rattle.std.proofs.Common.{◌≡◌, ◌↔◌, ℕ, zero, suc, ◌+◌, ◌<◌, ◌≤◌, Bool, true, false, not, cond, List, [], ◌∷◌, length, map, drop, get_or, ℤ, pos, ◌+ℤ◌, ◌-ℤ◌, ◌*ℤ◌, ◌≤ℤ◌, refl, ap, ap₂, sym, subst, ◌∙◌, drop-cons, arith}
+use Rattle.std.proofs.Common.{◌≡◌, ℕ, suc, ◌+◌, ◌<◌, Bool, true, false, not, cond, List, [], ◌∷◌, length, drop, ℤ, pos, ◌+ℤ◌, ◌*ℤ◌, refl, ap, ap₂, sym, subst, ◌∙◌, drop-cons, arith}
 use Rattle.std.specs.Ordering.{int_eq}
 use Rattle.std.proofs.lemmas.Bool.Decides.{Decides-int_eq}
 use Rattle.exact_math.specs.Ring.{integers}
-use Rattle.exact_math.specs.IntegerRing.{expand, linear}
-use Rattle.exact_vectors.specs.Vectors.{dot, add, zeros}
+use Rattle.exact_math.specs.IntegerRing.{linear}
+use Rattle.exact_vectors.specs.Vectors.{dot, add}
 use Rattle.exact_vectors.specs.Matrices.{times_vector}
 use Rattle.exact_vectors.specs.DotLaws as Dot
 use Rattle.whole_rows.specs.declared.bounds.Bounds.{Bounds}
 use Rattle.whole_rows.specs.WholeRows.{LiesIn}
 use Rattle.farkas_rows.specs.NodeLaws.{dot-unit}
 use Rattle.spaces.specs.Maps.{AffineMap, image}
-use Rattle.spaces.specs.Tables.{rows_in}
 use Rattle.presolve_map.specs.Selections.{select, positions}
-use Rattle.presolve_map.specs.Columns.{is_open, open_flags, kept, kept_columns, removed_value, removed_values, column_lines, IsColumnMap}
+use Rattle.presolve_map.specs.Columns.{is_open, open_flags, kept_columns, removed_value, removed_values, column_lines, IsColumnMap}
 
 -- The flags and the values are those of the box: a column whose flag is not set has one value.
 abbrev pub FlagsOf : List Bool → List ℤ → List Bounds → Type 0

@@ -1,16 +1,16 @@
 -- Rows that are put one after another to those that presolving leaves.
-use Rattle.std.proofs.Common.{◌≡◌, ℕ, zero, suc, ◌+◌, ◌*◌, ◌^◌, ◌<◌, ◌≤◌, Bool, true, false, List, [], ◌∷◌, ◌++◌, length, map, drop, get_or, ℤ, pos, None, nat_abs, refl, ap, ap₂, sym, subst, ◌∙◌, add-one, append_assoc, drop-cons, arith}
-use Rattle.std.specs.Prelude.{All, Option}
+use Rattle.std.proofs.Common.{◌≡◌, ℕ, suc, ◌+◌, ◌<◌, ◌≤◌, Bool, true, false, List, [], ◌∷◌, ◌++◌, length, map, drop, ℤ, None, nat_abs, refl, ap, ap₂, sym, ◌∙◌, add-one, append_assoc, drop-cons, arith}
+use Rattle.std.specs.Prelude.{Option}
 use Rattle.std.proofs.lemmas.List.{length-append, drop_all, append-nil}
 use Rattle.exact_math.specs.Ring.{integers}
 use Rattle.exact_vectors.specs.Vectors.{dot}
 use Rattle.whole_rows.specs.declared.bounds.Bounds.{Bounds}
-use Rattle.whole_rows.specs.WholeRows.{WholeRow, WholeRows, row_at, reach, span, rows_over, with_cost, IsWithinLimits}
+use Rattle.whole_rows.specs.WholeRows.{WholeRow, WholeRows, row_at, span, rows_over, with_cost}
 use Rattle.whole_rows.specs.Ends.{lows}
 use Rattle.whole_rows.specs.EndLaws.{LiesIn-lows}
 use Rattle.whole_rows.specs.WeightLaws.{dot_within}
 use Rattle.presolve_map.specs.Selections.{select, positions}
-use Rattle.presolve_map.specs.Columns.{kept, kept_columns, removed_part, open_flags}
+use Rattle.presolve_map.specs.Columns.{kept, kept_columns, removed_part}
 use Rattle.presolve_map.specs.Removed.{removed_bounds, span-removed, all_fixed, lows-removed}
 use Rattle.presolve_map.specs.ReducedRows.{ReducedRows, can_violate, needed_flags, reduced_row, IsReduced}
 use Rattle.presolve_map.specs.Reducing.{IsReducedTo}

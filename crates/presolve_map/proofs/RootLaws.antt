@@ -1,8 +1,8 @@
 -- When a root is closed.
-use Rattle.std.proofs.Common.{◌≡◌, ◌⊎◌, inl, inr, ℕ, ◌<◌, List, [], length, get_or, sym, subst, ◌∙◌, ⊎_elim}
-use Rattle.std.specs.Prelude.{None, Any}
+use Rattle.std.proofs.Common.{◌≡◌, inl, inr, ℕ, ◌<◌, [], length, sym, subst, ◌∙◌}
+use Rattle.std.specs.Prelude.{None}
 use Rattle.std.proofs.lemmas.List.{get_or_default}
-use Rattle.whole_rows.specs.WholeRows.{WholeRow, WholeRows, row_at}
+use Rattle.whole_rows.specs.WholeRows.{WholeRows, row_at}
 use Rattle.plain_slices.specs.Shut.{Shut}
 use Rattle.presolve_map.specs.Roots.{HasCrossingSides, IsClosedRoot}
 

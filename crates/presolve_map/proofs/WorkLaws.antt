@@ -1,5 +1,5 @@
 -- Rows and their sides, which stand beside them.
-use Rattle.std.proofs.Common.{◌≡◌, ℕ, zero, suc, ◌<◌, List, [], ◌∷◌, ◌++◌, length, map, get_or, ℤ, pos, None, refl, ap, ap₂, sym, ◌∙◌, arith}
+use Rattle.std.proofs.Common.{◌≡◌, ℕ, zero, suc, ◌<◌, List, [], ◌∷◌, ◌++◌, length, map, get_or, ℤ, None, refl, ap, ap₂, sym, ◌∙◌, arith}
 use Rattle.std.proofs.lemmas.List.{get_or-map, map-append}
 use Rattle.whole_rows.specs.WholeRows.{WholeRow, WholeRows, row_at}
 use Rattle.presolve_map.specs.declared.sides.WorkSides.{WorkSides}

@@ -1,5 +1,5 @@
 -- The matrix that places the kept columns among all.
-use Rattle.std.specs.Prelude.{◌≡◌, ℤ, ◌*◌, Bool, List, length}
+use Rattle.std.specs.Prelude.{◌≡◌, ℤ, Bool, List, length}
 use Rattle.spaces.specs.Tables.{Table, rows_in}
 use Rattle.presolve_map.specs.Selections.{positions}
 use Rattle.presolve_map.specs.Columns.{column_lines}

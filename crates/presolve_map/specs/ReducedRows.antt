@@ -1,5 +1,5 @@
 -- What presolving leaves of whole rows over a box: the columns whose bounds differ, and the rows that the box can violate.
-use Rattle.std.specs.Prelude.{◌≡◌, ℕ, ◌^◌, ◌≤◌, Bool, true, false, ◌||◌, ℤ, ◌-ℤ◌, int_lt, List, map, Option, Some, None, option_map}
+use Rattle.std.specs.Prelude.{◌≡◌, ℕ, Bool, false, ◌||◌, ℤ, ◌-ℤ◌, int_lt, List, map, Option, Some, None, option_map}
 use Rattle.whole_rows.specs.declared.bounds.Bounds.{Bounds}
 use Rattle.whole_rows.specs.declared.ends.End.TheVariants.{Least, Greatest}
 use Rattle.whole_rows.specs.WholeRows.{WholeRow, WholeRows}

@@ -1,6 +1,6 @@
 -- Rows on the way to those that presolving leaves.
-use Rattle.std.specs.Prelude.{◌≡◌, ℕ, ◌≤◌, List, ◌++◌, length, map, drop}
-use Rattle.whole_rows.specs.WholeRows.{WholeRow, WholeRows}
+use Rattle.std.specs.Prelude.{◌≡◌, ℕ, ◌≤◌, ◌++◌, length, map, drop}
+use Rattle.whole_rows.specs.WholeRows.{WholeRows}
 use Rattle.presolve_map.specs.Selections.{select, positions}
 use Rattle.presolve_map.specs.Columns.{kept, kept_columns, removed_part}
 use Rattle.presolve_map.specs.ReducedRows.{ReducedRows, needed_flags, reduced_row}

@@ -1,5 +1,5 @@
 -- When the box and single rows show that the root has no point, and the lines that say so.
-use Rattle.std.specs.Prelude.{◌≡◌, ◌⊎◌, ℤ, ◌<ℤ◌, List, [], Any, Option, Some, None}
+use Rattle.std.specs.Prelude.{◌≡◌, ◌⊎◌, ℤ, ◌<ℤ◌, [], Any, Option, Some, None}
 use Rattle.whole_rows.specs.WholeRows.{WholeRow, WholeRows}
 use Rattle.farkas_rows.specs.declared.line.Line.{Line}
 use Rattle.farkas_rows.specs.Refutes.{Refutes}

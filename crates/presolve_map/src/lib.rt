@@ -3,6 +3,8 @@
 #![tactic(auto)]
 
 mod columns;
+mod laws;
+mod lifting;
 mod outcome;
 mod placing;
 mod presolving;
@@ -11,6 +13,11 @@ mod root;
 mod sides;
 mod work_rows;
 
+pub use laws::needed_row_is_violated_within_the_box;
+pub use lifting::lift_form;
 pub use outcome::Presolved;
 pub use presolving::presolve;
 pub use work_rows::WorkRows;
+
+#[cfg(test)]
+mod tests;

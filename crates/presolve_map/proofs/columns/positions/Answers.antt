@@ -1,4 +1,4 @@
-use Rattle.std.proofs.Common.{◌+◌, ◌∷◌, [], drop, false, append_assoc}
+use Rattle.std.proofs.Common.{◌+◌, ◌∷◌, [], drop, append_assoc}
 use Rattle.std.proofs.lemmas.List.{append-nil}
 use Rattle.presolve_map.specs.Selections.{positions}
 use Rattle.presolve_map.proofs.SelectLaws.{positions-set, positions-unset, positions-end}

@@ -1,4 +1,4 @@
-use Rattle.std.proofs.Common.{ℕ, ℤ, ◌+◌, sym, subst₂, arith}
+use Rattle.std.proofs.Common.{ℕ, ℤ, ◌+◌, sym, subst₂}
 use Rattle.spaces.specs.Tables.{Table}
 use Rattle.presolve_map.proofs.PlacedLaws.{IsPlacedTo, placed-none, placed-written, placed-unset, placed-all}
 use Rattle.presolve_map.proofs.placing.place_columns.Goals as goal

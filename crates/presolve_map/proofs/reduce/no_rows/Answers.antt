@@ -1,4 +1,4 @@
-use Rattle.std.proofs.Common.{rules, ◌≡◌, ℤ, List, [], length, ap, subst, sym, ◌∙◌, refl, FitsSigned, arith}
+use Rattle.std.proofs.Common.{rules, ◌≡◌, [], ap, subst, sym, ◌∙◌, refl, FitsSigned, arith}
 use Rattle.std.specs.Int.{w128}
 use Rattle.std.proofs.lemmas.Int.{to_z-of_z}
 use Rattle.whole_rows.specs.declared.ends.End.TheVariants.{Least}
@@ -7,7 +7,6 @@ use Rattle.whole_rows.specs.WholeRows.{rows_over, with_cost}
 use Rattle.presolve_map.specs.Columns.{kept, kept_columns, removed_part}
 use Rattle.presolve_map.specs.Removed.{span-removed, sum_at-removed}
 use Rattle.presolve_map.specs.Reducing.{IsReducedTo}
-use Rattle.presolve_map.specs.ReducedRows.{ReducedRows}
 use Rattle.presolve_map.proofs.KeptLaws.{kept-few, kept-light, kept-light_cost, length-kept}
 use Rattle.presolve_map.proofs.ReduceLaws.{reduced-none}
 use Rattle.presolve_map.proofs.reduce.no_rows.Goals as goal

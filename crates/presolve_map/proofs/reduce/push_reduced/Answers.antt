@@ -1,4 +1,4 @@
-use Rattle.std.proofs.Common.{◌≡◌, ℕ, length, ap, ap₂, sym, ◌∙◌, refl, arith}
+use Rattle.std.proofs.Common.{◌≡◌, ℕ, ap, ap₂, sym, ◌∙◌, refl, arith}
 use Rattle.whole_rows.specs.WholeRows.{WholeRow, row_at}
 use Rattle.presolve_map.specs.Columns.{kept, open_flags}
 use Rattle.presolve_map.specs.ReducedRows.{ReducedRows, reduced_row}

@@ -1,4 +1,4 @@
-use Rattle.std.proofs.Common.{ap, subst, sym, ◌∙◌, List}
+use Rattle.std.proofs.Common.{subst, sym, ◌∙◌, List}
 use Rattle.farkas_rows.specs.declared.line.Use.{Use}
 use Rattle.farkas_rows.specs.Refutes.{line_of}
 use Rattle.std.specs.Prelude.{None}

@@ -1,4 +1,3 @@
-use Rattle.std.proofs.Common.{arith}
 use Rattle.presolve_map.proofs.root.shut_line.Goals as goal
 
 pub returns-in-Split : goal.returns-in-Split

@@ -1,7 +1,6 @@
-use Rattle.std.proofs.Common.{◌<◌, ◌≤◌, ◌^◌, length, ap, sym, ◌∙◌, get_or, pos, None, arith}
-use Rattle.std.proofs.lemmas.List.{get_or_default}
+use Rattle.std.proofs.Common.{◌<◌, length, ap, sym, ◌∙◌, arith}
 use Rattle.std.proofs.lemmas.List.Elements.{All-get_or}
-use Rattle.whole_rows.specs.WholeRows.{WholeRow, size_of_side}
+use Rattle.whole_rows.specs.WholeRows.{WholeRow}
 use Rattle.presolve_map.specs.declared.sides.WorkSides.{WorkSides}
 use Rattle.presolve_map.specs.WorkViews.{IsSmallSides}
 use Rattle.presolve_map.proofs.WorkLaws.{count-view, row-view}

@@ -1,4 +1,4 @@
-use Rattle.std.proofs.Common.{◌≡◌, ℕ, List, ◌++◌, ◌∷◌, [], ap, ap₂, ◌∙◌, arith}
+use Rattle.std.proofs.Common.{◌≡◌, List, ◌++◌, ◌∷◌, [], ap, ap₂, ◌∙◌, arith}
 use Rattle.whole_rows.specs.WholeRows.{WholeRows}
 use Rattle.presolve_map.specs.declared.sides.WorkSides.{WorkSides}
 use Rattle.presolve_map.specs.ReducedRows.{ReducedRows}

@@ -1,6 +1,5 @@
 use Rattle.std.proofs.Common.{◌<◌, length, ap, sym, ◌∙◌, None, arith}
 use Rattle.whole_rows.specs.WholeRows.{WholeRow}
-use Rattle.presolve_map.specs.declared.sides.WorkSides.{WorkSides}
 use Rattle.presolve_map.proofs.WorkLaws.{count-view, row-view}
 use Rattle.presolve_map.proofs.work_rows.WorkRows.row.Goals as goal
 
