@@ -1,0 +1,11 @@
+pub mod CrossingLaws
+pub mod WorkLaws
+pub mod SelectLaws
+pub mod PointLaws
+pub mod PlacedLaws
+pub mod ReduceLaws
+pub mod KeepLaws
+pub mod RootLaws
+pub mod KeptLaws
+pub mod LiftLaws
+pub mod ViolateLaws

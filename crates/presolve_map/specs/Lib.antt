@@ -1,0 +1,10 @@
+pub mod Selections
+pub mod Columns
+pub mod Removed
+pub mod Placed
+pub mod Lifted
+pub mod ReducedRows
+pub mod WorkViews
+pub mod Reducing
+pub mod Roots
+pub mod Presolved
