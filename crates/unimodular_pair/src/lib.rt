@@ -11,9 +11,9 @@ mod rows;
 mod step;
 mod stop;
 
-pub use stop::CompleteStop;
 pub use pair::Pair;
 pub use step::{Step, Steps};
+pub use stop::CompleteStop;
 
 #[cfg(test)]
 mod tests;
