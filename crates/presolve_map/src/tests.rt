@@ -5,31 +5,58 @@ use std::alloc::Global;
 use std::test::Fail;
 use whole_rows::{Bounds, DenseRows};
 
-/// 3x + 5y between two sides, with x from `x` to 1 and y from 0 to 3.
-fn root(alloc: Global, x: i128, low: i128, high: i128) -> Result<DenseRows, Fail> {
-    let bounds = vec![in alloc; Bounds { low: x, high: 1 }, Bounds { low: 0, high: 3 }]?;
-    let mut rows = DenseRows::new(alloc, bounds)?;
+/// 3x + 5y between two sides, at a cost of 2x + 7y.
+fn root(alloc: Global, x: Bounds, y: Bounds, low: i128, high: i128) -> Result<DenseRows, Fail> {
+    let mut rows = DenseRows::new(alloc, vec![in alloc; x, y]?)?;
     rows.push_row(&[3, 5], Some(low), Some(high))?;
+    rows.set_cost(&[2, 7])?;
     Ok(rows)
 }
 
 #[test]
 fn a_fixed_column_leaves(rt: HostRuntime) -> Result<(), Fail> {
-    let rows = root(rt.alloc(), 1, 8, 8)?;
-    let Presolved::Open { map: _, rows: work } = presolve(rt.alloc(), &rows)? else {
+    let rows = root(
+        rt.alloc(),
+        Bounds { low: 1, high: 1 },
+        Bounds { low: 0, high: 3 },
+        8,
+        8,
+    )?;
+    let Presolved::Open { map, rows: work } = presolve(rt.alloc(), &rows)? else {
         return Err(NoMemory)?;
     };
     assert_eq!(rt; work.columns(), 1);
     assert_eq!(rt; work.rows(), 1);
+    assert_eq!(rt; work.row(0), [5].as_slice());
     assert_eq!(rt; work.low(0), Some(5));
+    assert_eq!(rt; work.high(0), Some(5));
     assert_eq!(rt; work.original_column(0), 1);
+    assert_eq!(rt; work.original_row(0), 0);
+    assert_eq!(rt; work.cost_constant(), 2);
+    assert_eq!(rt; map.base().items(), [1, 0].as_slice());
     Ok(())
 }
 
 #[test]
-fn a_row_out_of_reach_closes(rt: HostRuntime) -> Result<(), Fail> {
-    let rows = root(rt.alloc(), 0, 19, 30)?;
-    let is_closed = matches!(presolve(rt.alloc(), &rows)?, Presolved::Closed(_));
-    assert!(rt; is_closed);
+fn a_row_that_the_box_meets_leaves(rt: HostRuntime) -> Result<(), Fail> {
+    let column = Bounds { low: 0, high: 1 };
+    let rows = root(rt.alloc(), column, column, 0, 8)?;
+    let Presolved::Open { map: _, rows: work } = presolve(rt.alloc(), &rows)? else {
+        return Err(NoMemory)?;
+    };
+    assert_eq!(rt; work.columns(), 2);
+    assert_eq!(rt; work.rows(), 0);
+    Ok(())
+}
+
+#[test]
+fn roots_are_closed(rt: HostRuntime) -> Result<(), Fail> {
+    let column = Bounds { low: 0, high: 1 };
+    let crossing = root(rt.alloc(), Bounds { low: 1, high: 0 }, column, 0, 8)?;
+    assert!(rt; matches!(presolve(rt.alloc(), &crossing)?, Presolved::Closed(_)));
+    let out_of_reach = root(rt.alloc(), column, column, 9, 20)?;
+    assert!(rt; matches!(presolve(rt.alloc(), &out_of_reach)?, Presolved::Closed(_)));
+    let empty = root(rt.alloc(), column, column, 5, 4)?;
+    assert!(rt; matches!(presolve(rt.alloc(), &empty)?, Presolved::Closed(_)));
     Ok(())
 }
