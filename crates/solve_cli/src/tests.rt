@@ -1,6 +1,5 @@
 use super::*;
 use desk_io::{MemDesk, SureDesk};
-use mps_model::Layout;
 use std::alloc::{AllocError, Global};
 use std::test::Fail;
 
@@ -323,65 +322,12 @@ fn words_are_obeyed(rt: HostRuntime) -> Result<(), Fail> {
         ("solve --nodes 1001 m p", TWO_COINS, 3, "WORDS\n"),
         ("solve --nodes 5 --nodes 5 m p", TWO_COINS, 3, "WORDS\n"),
         ("solve --lanes 1 m p", TWO_COINS, 3, "WORDS\n"),
-        ("check m p", PRICED, 4, "TEXT NoUpper 6\n"),
-        ("check --upper 9 other p", PRICED, 6, "READFAULT\n"),
-        ("check --upper 9 m p", PRICED, 6, "READFAULT\n"),
-        ("check --fixed m p", TWO_COINS, 4, "TEXT Byte 3\n"),
-        ("check m m", TWO_COINS, 3, "WORDS\n"),
-        ("check m", TWO_COINS, 3, "WORDS\n"),
-        ("check --nodes 3 m p", TWO_COINS, 3, "WORDS\n"),
-        ("check solve m p", TWO_COINS, 3, "WORDS\n"),
-        ("prove m p", TWO_COINS, 3, "WORDS\n"),
     ] {
         let mut desk = MemDesk::new(alloc);
         desk.add_input("m", text.as_bytes())?;
         let status = run(alloc, &words(alloc, line)?, &mut desk);
         assert_eq!(rt; status.code(), code, "of {line}");
         assert!(rt; desk.said().starts_with(report.as_bytes()), "to {line}");
-    }
-    Ok(())
-}
-
-#[test]
-fn words_are_read(rt: HostRuntime) -> Result<(), Fail> {
-    let alloc = rt.alloc();
-    for (line, layout, upper, nodes) in [
-        ("solve model.mps proof.txt", Layout::Free, None, 1000),
-        (
-            "solve --fixed model.mps proof.txt",
-            Layout::Fixed,
-            None,
-            1000,
-        ),
-        (
-            "solve --nodes 7 --upper 0 model.mps proof.txt",
-            Layout::Free,
-            Some(0),
-            7,
-        ),
-        (
-            "solve --fixed --upper 4611686018427387904 --nodes 1000 model.mps proof.txt",
-            Layout::Fixed,
-            Some(4_611_686_018_427_387_904),
-            1000,
-        ),
-    ] {
-        match read_words(alloc, &words(alloc, line)?)? {
-            Command::Solve {
-                layout: read_layout,
-                upper: read_upper,
-                nodes: read_nodes,
-                model,
-                proof,
-            } => {
-                assert!(rt; read_layout == layout, "in {line}");
-                assert!(rt; read_upper == upper, "in {line}");
-                assert_eq!(rt; read_nodes, nodes, "in {line}");
-                assert_eq!(rt; model.text().as_bytes(), "model.mps".as_bytes());
-                assert_eq!(rt; proof.text().as_bytes(), "proof.txt".as_bytes());
-            }
-            Command::Check { .. } => assert!(rt; false, "{line} is no check"),
-        }
     }
     Ok(())
 }
