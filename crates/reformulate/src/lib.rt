@@ -1,0 +1,8 @@
+//! Integer solutions of linear equalities, as the whole points of a space of their own dimension.
+#![tactic(auto)]
+
+mod equality;
+mod frame;
+
+pub use equality::{Equalities, Equality};
+pub use frame::Frame;
