@@ -11,8 +11,8 @@ use std::marker::Model;
 /// K has a line for each work column, and V a row for each coordinate of y.
 #[derive(Debug, Drop)]
 pub struct Frame {
-    to_work: Affine<Kernel, Work>,
-    back: Grid<Work, i128>,
+    pub(crate) to_work: Affine<Kernel, Work>,
+    pub(crate) back: Grid<Work, i128>,
 }
 
 impl Model for Frame {

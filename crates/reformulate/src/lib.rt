@@ -6,3 +6,6 @@ mod frame;
 
 pub use equality::{Equalities, Equality};
 pub use frame::Frame;
+
+mod stub;
+pub use stub::{Framed, FrameExcuse, FrameStop, Gap, Times};

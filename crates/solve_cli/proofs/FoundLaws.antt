@@ -1,5 +1,5 @@
 -- What a search found, as what the model comes to.
-use Rattle.std.proofs.Common.{◌≡◌, ℕ, ◌+◌, ◌*◌, ◌^◌, ◌<◌, ◌≤◌, arith, ℤ, true, List, length, refl, ap, subst, ◌∙◌}
+use Rattle.std.proofs.Common.{◌≡◌, ℕ, ◌+◌, ◌*◌, ◌^◌, ◌<◌, ◌≤◌, arith, ℤ, Bool, List, length, refl, ap, subst, ◌∙◌}
 use Rattle.std.specs.Prelude.{Option, Some, None, codes}
 use Rattle.std.proofs.lemmas.List.{length-map}
 use Rattle.exact_math.specs.Rational.{ℚ}
@@ -9,7 +9,7 @@ use Rattle.proof_tree.specs.declared.tree.PartTree.{PartTree}
 use Rattle.proof_tree.specs.Counts.{records, plain_splits, plain_splits_of_part, records_of_part}
 use Rattle.proof_tree.specs.Moves.{widest}
 use Rattle.proof_tree.specs.Found.{IsDone, IsSpent}
-use Rattle.plain_slices.specs.PlainMoves.{IsPlainAnswer}
+use Rattle.slice_branch.specs.Framed.{IsAllowed}
 use Rattle.int_model.specs.declared.model.Model.{Model}
 use Rattle.int_model.specs.IntegerRows.{rounded_bounds}
 use Rattle.int_model.specs.Points.{value_at}
@@ -22,12 +22,12 @@ use Rattle.solve_cli.specs.Outputs.{with_proof}
 use Rattle.solve_cli.specs.Verdict.{rows_of, enough_nodes, FindsBest, FindsNone, SpendsBudget}
 use Rattle.solve_cli.specs.Solving.{HasRows}
 
-module _ (nodes : ℕ) (model : Model) (has : HasRows model) where
+module _ (plain : Bool) (nodes : ℕ) (model : Model) (has : HasRows model) where
   abbrev pub IsTree : Tree → Option (List ℤ) → Type 0
-  IsTree = IsDone (IsPlainAnswer (rows_of model)) (rows_of model) true nodes
+  IsTree = IsDone (IsAllowed (rows_of model)) (rows_of model) plain nodes
 
   abbrev pub IsPart : PartTree → Option (List ℤ) → Type 0
-  IsPart = IsSpent (IsPlainAnswer (rows_of model)) (rows_of model) true nodes
+  IsPart = IsSpent (IsAllowed (rows_of model)) (rows_of model) plain nodes
 
   -- the lines of a point, by equal counts and values
   found_same : (head : List ℕ) (value other : ℚ) (x : List ℤ) (a b c d : ℕ) → value ≡ other → a ≡ b → c ≡ d → found_lines head value model.columns x a c ≡ found_lines head other model.columns x b d

@@ -10,6 +10,5 @@ pub mod AnswerLaws
 pub mod SolveLaws
 pub mod VerdictLaws
 pub mod HeadlineLaws
-pub mod PlainPathLaws
 pub mod FoundLaws
 pub mod CheckLaws

@@ -9,6 +9,5 @@ pub mod Verdict
 pub mod Answer
 pub mod Headline
 pub mod Solving
-pub mod PlainPaths
 pub mod Outputs
 pub mod Putting

@@ -1,7 +1,6 @@
 //! The commands of the program over a desk.
 #![tactic(auto)]
 
-mod brancher;
 mod check;
 mod counts;
 mod file_name;

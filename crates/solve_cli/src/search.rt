@@ -1,15 +1,14 @@
 //! The search of a model.
-ghost use Rattle.std.specs.Prelude.{◌≡◌, ◌≤◌, ◌<◌, ◌^◌, ℕ, true, IfOk, IfSome};
+ghost use Rattle.std.specs.Prelude.{◌≡◌, ◌≤◌, ◌<◌, ◌^◌, ℕ, Bool, IfOk, IfSome};
 ghost use Rattle.whole_rows.specs.WholeRows.{Meets, IsWithinLimits};
 ghost use Rattle.proof_tree.specs.Found.{IsFound, IsDone, IsSpent};
 ghost use Rattle.proof_tree.specs.Counts.{records, records_of_part};
-ghost use Rattle.plain_slices.specs.PlainMoves.{IsPlainAnswer};
+ghost use Rattle.slice_branch.specs.Framed.{IsAllowed};
 ghost use Rattle.int_model.specs.IntegerRows.{integer_rows};
 ghost use Rattle.solve_cli.specs.Words.{most_nodes};
 ghost use Rattle.solve_cli.specs.Verdict.{rows_of, Solves};
 ghost use Rattle.solve_cli.specs.Solving.{HasRows, Replies};
 
-use crate::brancher::{PlainBrancher, PlainPlace};
 use crate::counts::{count_part, count_tree};
 use crate::proof::Proof;
 use crate::reply::{Reply, point_report};
@@ -19,20 +18,22 @@ use int_model::{IntRows, Model};
 use proof_text::Claim;
 use proof_tree::{PartTree, Searched, Tree, search};
 use sequence::NoMemory;
+use slice_branch::SliceBrancher;
 use spaces::{Original, Vect};
 use std::alloc::Global;
 use whole_rows::DenseRows;
 
-// Searches rows by splits of single columns.
+// Searches rows by reformulation.
 fn search_rows(alloc: Global, rows: &DenseRows, nodes: u32) -> Result<Searched, NoMemory>
     requires some { 1 ≤ nodes }
-    ensures found { IfOk result (IsFound (IsPlainAnswer rows.now) rows.now true nodes) }
+    ensures found { IfOk result (λ found. (plain : Bool) × IsFound (IsAllowed rows.now) rows.now plain nodes found) }
     ensures limits { IsWithinLimits rows.now }
 {
     let columns = rows.columns();
     prove!(columns <= 256);
-    let mut brancher = PlainBrancher::new(alloc, rows);
-    search(alloc, &mut brancher, PlainPlace, rows, nodes)
+    let mut brancher = SliceBrancher::new(alloc, rows)?;
+    let root = brancher.root()?;
+    search(alloc, &mut brancher, root, rows, nodes)
 }
 
 // The reply to a search that was finished.
@@ -46,7 +47,7 @@ fn done_reply(
     requires rows { rows.now ≡ integer_rows model.now }
     requires known { IfSome best (Meets rows.now.whole) }
     requires counted { records tree < 2 ^ 64 }
-    ensures { (nodes : ℕ) → nodes ≤ most_nodes → HasRows model.now → IsWithinLimits (rows_of model.now) → IsDone (IsPlainAnswer (rows_of model.now)) (rows_of model.now) true nodes tree best
+    ensures { (plain : Bool) (nodes : ℕ) → nodes ≤ most_nodes → HasRows model.now → IsWithinLimits (rows_of model.now) → IsDone (IsAllowed (rows_of model.now)) (rows_of model.now) plain nodes tree best
         → IfOk result (Replies (Solves nodes model.now)) }
 {
     let counts = count_tree(&tree);
@@ -75,7 +76,7 @@ fn spent_reply(
     requires rows { rows.now ≡ integer_rows model.now }
     requires known { IfSome best (Meets rows.now.whole) }
     requires counted { records_of_part part < 2 ^ 64 }
-    ensures { (nodes : ℕ) → HasRows model.now → IsSpent (IsPlainAnswer (rows_of model.now)) (rows_of model.now) true nodes part best
+    ensures { (plain : Bool) (nodes : ℕ) → HasRows model.now → IsSpent (IsAllowed (rows_of model.now)) (rows_of model.now) plain nodes part best
         → IfOk result (Replies (Solves nodes model.now)) }
 {
     let counts = count_part(&part);

@@ -1,0 +1,3 @@
+mod BrancherLaws
+mod PlaceLaws
+mod PlainLaws

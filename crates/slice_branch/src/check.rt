@@ -1,0 +1,185 @@
+//! The checks by which the answers of the fast way are believed.
+ghost use Rattle.std.specs.Prelude.{◌≡◌, ◌≤◌, ◌<ℤ◌, ◌^◌, ◌↔◌, ◌+◌, pos, length, All, Some, IfSome, IsTrue};
+ghost use Rattle.exact_math.specs.Ring.{integers};
+ghost use Rattle.exact_vectors.specs.Vectors.{dot};
+ghost use Rattle.whole_rows.specs.WholeRows.{reach};
+ghost use Rattle.farkas_rows.specs.Ends.{inequality_of};
+ghost use Rattle.farkas_rows.specs.Refutes.{HasForms, IsDense, IsOnPath};
+ghost use Rattle.proof_tree.specs.declared.tree.Mark.TheVariants.{Thin};
+ghost use Rattle.proof_tree.specs.Moves.{widest, ClosesUnder, SplitsUnder, Improves};
+ghost use Rattle.proof_tree.specs.Trees.{IsSplitForm};
+ghost use Rattle.slice_branch.specs.Directions.{IsDirection};
+
+use crate::ends::Direction;
+use exact_vectors::dot_checked;
+use farkas_rows::{CutUse, End, Line, Path, Slice, refutes};
+use proof_tree::{Cut, Mark};
+use whole_rows::{Bounds, DenseRows, span_of};
+
+/// The greatest size of the first value of a split.
+const LARGEST_VALUE: i128 = 1 << 97;
+
+/// The greatest difference between the two bounds of a column, and at least 0.
+pub(crate) fn widest_of(bounds: &[Bounds]) -> i128
+    requires { All (λ b. reach b ≤ 2 ^ 96) bounds.now }
+    ensures value { result ≡ pos (widest bounds.now) }
+    ensures small { widest bounds.now ≤ 2 ^ 97 }
+{
+    let Some((first, rest)) = bounds.split_first() else {
+        return 0;
+    };
+    let rest = widest_of(rest);
+    let difference = first.high - first.low;
+    if difference > rest { difference } else { rest }
+}
+
+/// Whether a cut that is used has the best value.
+fn is_cut_under(best: Option<i128>, cut: &Option<CutUse>) -> bool
+    ensures { IsTrue result → IfSome cut.now (λ cut. best ≡ Some cut.value) }
+{
+    match (best, cut) {
+        (_, None) => true,
+        (Some(best), Some(cut)) => best == cut.value,
+        (None, Some(_)) => false,
+    }
+}
+
+/// Whether the line closes the path with the end, and uses the cut of the best value alone.
+pub(crate) fn closes_under<'a>(
+    rows: &'a DenseRows,
+    best: Option<i128>,
+    path: &'a Path,
+    end: &'a End<'a>,
+    line: &Line,
+) -> bool
+    requires path { HasForms (length rows.now.box) path.now }
+    requires end { IfSome (inequality_of end.now) (IsDense (length rows.now.box)) }
+    ensures { IsTrue result → ClosesUnder rows.now best path.now (inequality_of end.now) line.now }
+{
+    is_cut_under(best, &line.cut) && refutes(rows, path, end, line)
+}
+
+/// Whether the form is one of a split.
+fn is_split_form(rows: &DenseRows, form: &[i128]) -> bool
+    ensures { IsTrue result ↔ IsSplitForm rows.now form.now }
+{
+    form.len() == rows.columns()
+        && form.iter().any(|factor| *factor != 0)
+        && span_of(form, rows.bounds()).is_some()
+}
+
+/// Whether the values between the two ends are at most `most` whole numbers from `lo` on, and both ends are closed.
+fn is_direction(
+    rows: &DenseRows,
+    best: Option<i128>,
+    path: &Path,
+    most: i128,
+    direction: &Direction,
+) -> bool
+    requires forms { HasForms (length rows.now.box) path.now }
+    requires most { most ≡ pos (widest rows.now.box + 1) }
+    requires small { widest rows.now.box ≤ 2 ^ 97 }
+    ensures { IsTrue result → IsDirection rows.now best path.now direction.now }
+{
+    let Direction {
+        form,
+        lo,
+        count,
+        below,
+        above,
+    } = direction;
+    let lo = *lo;
+    let count = *count;
+    if !is_split_form(rows, form.items())
+        || lo < -LARGEST_VALUE
+        || lo > LARGEST_VALUE
+        || count < 0
+        || count > most
+    {
+        return false;
+    }
+    let from = lo + count;
+    closes_under(rows, best, path, &End::Below { form, lo }, below)
+        && closes_under(rows, best, path, &End::Above { form, from }, above)
+}
+
+/// The split into the slices of a direction, where it passes its checks.
+pub(crate) fn split_of(
+    rows: &DenseRows,
+    best: Option<i128>,
+    path: &Path,
+    most: i128,
+    direction: Direction,
+) -> Option<Cut>
+    requires forms { HasForms (length rows.now.box) path.now }
+    requires most { most ≡ pos (widest rows.now.box + 1) }
+    requires small { widest rows.now.box ≤ 2 ^ 97 }
+    ensures splits { IfSome result (SplitsUnder rows.now best path.now) }
+    ensures mark { IfSome result (λ cut. cut.mark ≡ Thin) }
+    ensures count { IfSome result (λ cut. cut.count ≡ direction.count) }
+{
+    if !is_direction(rows, best, path, most, &direction) {
+        return None;
+    }
+    let Direction {
+        form,
+        lo,
+        count,
+        below,
+        above,
+    } = direction;
+    Some(Cut {
+        form,
+        lo,
+        count,
+        below,
+        above,
+        mark: Mark::Thin,
+    })
+}
+
+/// Whether the values lie on the slice.
+fn lies_on(slice: &Slice, x: &[i128]) -> bool
+    requires { length slice.now.form ≡ length x.now }
+    ensures { IsTrue result → dot integers slice.now.form x.now ≡ slice.now.beta }
+{
+    match dot_checked(slice.form.items(), x) {
+        Some(value) => value == slice.beta,
+        None => false,
+    }
+}
+
+/// Whether the values lie on each slice.
+fn is_on_path(path: &Path, x: &[i128]) -> bool
+    requires { HasForms (length x.now) path.now }
+    ensures { IsTrue result → IsOnPath path.now x.now }
+{
+    let slices = path.items();
+    for slice in slices {
+        if !lies_on(slice, x) {
+            return false;
+        }
+    }
+    true
+}
+
+/// Whether a value of the costs is below that of the best point, where one is known.
+fn is_better(best: Option<i128>, value: i128) -> bool
+    ensures { IsTrue result ↔ IfSome best (λ known. value <ℤ known) }
+{
+    match best {
+        Some(known) => value < known,
+        None => true,
+    }
+}
+
+/// Whether the values are a point of the rows on the path that is better than the best one.
+pub(crate) fn improves(rows: &DenseRows, best: Option<i128>, path: &Path, x: &[i128]) -> bool
+    requires { HasForms (length rows.now.box) path.now }
+    ensures { IsTrue result → Improves rows.now best path.now x.now }
+{
+    x.len() == rows.columns()
+        && rows.is_point(x)
+        && is_on_path(path, x)
+        && is_better(best, rows.cut_value(x))
+}

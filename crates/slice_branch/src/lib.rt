@@ -1,0 +1,23 @@
+//! The search by reformulation: a node's integer points are those of a frame, and it is split along thin directions of it.
+#![tactic(auto)]
+
+mod brancher;
+mod check;
+mod directions;
+mod ends;
+mod frames;
+mod gap;
+mod halt;
+mod model;
+mod place;
+mod points;
+mod quotient;
+mod seen;
+mod short;
+mod work;
+
+pub use brancher::SliceBrancher;
+pub use place::{Node, Place, Settled};
+
+#[cfg(test)]
+mod tests;
