@@ -19,6 +19,6 @@ returns-clause-chosen c =
     let turned = turned_stands rows path best c.thin_move.new.place kept in
     let is : c.turn_plain.new.place ≡ plain_from (length path) c.thin_move.new.place = c.turn_plain.ensures ∙ ap (λ xs. plain_from (length xs) c.thin_move.new.place) c.items.ensures in
     let here : StandsFor rows c.turn_plain.new.place path best = subst (λ (place : Place). StandsFor rows place path best) (sym is) turned in
-    let plain : is_plain_place c.turn_plain.new.place ≡ true = ap is_plain_place is ∙ turned_plain (length path) c.thin_move.new.place in
+    let plain : is_plain_place c.turn_plain.new.place ≡ true = ap is_plain_place is ∙ turned_plain rows path best (length path) c.thin_move.new.place in
     on_ok (IsPlainAnswer rows path best) (IsMove rows path best (height_of rows c.turn_plain.new.place path) (is_plain_place c.turn_plain.new.place)) c.plain_move.result
     (plain_at rows path best c.turn_plain.new.place plain here) c.plain_move.ensures
