@@ -7,3 +7,4 @@ pub mod StateSteps
 pub mod CopySteps
 pub mod ProductSteps
 pub mod IndependentRows
+pub mod RaisedSteps

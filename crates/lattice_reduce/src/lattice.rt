@@ -56,7 +56,7 @@ fn copied<S: Space>(alloc: Global, basis: &Grid<S, i128>) -> Result<Grid<S, i128
 fn begun<S: Space>(alloc: Global, basis: &Grid<S, i128>) -> Result<Reduction<S>, NoMemory>
     requires few { basis.now.rows ≤ 256 }
     requires independent { IsIndependent integers basis.now.width (items_of (rows_in basis.now)) basis.now.rows }
-    ensures settled { IfOk result (λ r. SettledTo r.basis r.numbers.items 0) }
+    ensures settled { IfOk result (λ r. SettledTo r.basis r.numbers 0) }
     ensures height { IfOk result (λ r. r.basis.rows ≡ basis.now.rows) }
     ensures width { IfOk result (λ r. r.basis.width ≡ basis.now.width) }
     ensures rows { IfOk result (λ r. rows_in r.basis ≡ rows_in basis.now) }
@@ -67,7 +67,7 @@ fn begun<S: Space>(alloc: Global, basis: &Grid<S, i128>) -> Result<Reduction<S>,
     let count = basis.rows();
     let copy = copied(alloc, basis)?;
     let pair = Pair::identity(alloc, count)?;
-    let numbers = vec![in alloc; 0i128; count * count]?;
+    let numbers = Grid::filled(alloc, count + 1, count, 0)?;
     Ok(Reduction {
         basis: copy,
         pair,

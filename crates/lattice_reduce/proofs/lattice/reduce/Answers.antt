@@ -7,7 +7,7 @@ use Rattle.lattice_reduce.proofs.lattice.reduce.Goals as goal
 pub returns-in-Ok-run-clause-reduced : goal.returns-in-Ok-run-clause-reduced
 returns-in-Ok-run-clause-reduced g c =
     let moved = c.in-Ok-run.ensures.moved in
-    reduced_end c.run.new.self.basis c.args.basis.now c.run.new.self.numbers.items c.in-Ok.reduction.basis.rows (moved.same_rows ∙ c.in-Ok.ensures.height) (moved.same_width ∙ c.in-Ok.ensures.width) c.in-Ok.ensures.height c.in-Ok-run.ensures.settled
+    reduced_end c.run.new.self.basis c.args.basis.now c.run.new.self.numbers c.in-Ok.reduction.basis.rows (moved.same_rows ∙ c.in-Ok.ensures.height) (moved.same_width ∙ c.in-Ok.ensures.width) c.in-Ok.ensures.height c.in-Ok-run.ensures.settled
 
 pub returns-in-Ok-run-clause-legal : goal.returns-in-Ok-run-clause-legal
 returns-in-Ok-run-clause-legal g c =
