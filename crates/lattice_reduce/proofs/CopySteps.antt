@@ -1,11 +1,13 @@
 -- A basis copied row by row, and where its reduction begins.
-use Rattle.std.proofs.Common.{◌≡◌, ◌⊎◌, ⊎_elim, ℕ, ◌+◌, ◌-◌, ◌*◌, ◌<◌, ◌≤◌, ℤ, pos, List, [], ◌++◌, length, get_or, take, replicate, sym, ap, ap₂, ◌∙◌, subst, subst₂, arith, below_more, get_or-set_other, get_or-set_same}
-use Rattle.std.proofs.lemmas.List.{ext_get_or, drop-replicate, get_or-replicate, get_or_past, length-replicate, take-replicate}
+use Rattle.std.proofs.Common.{◌≡◌, ◌≢◌, ◌⊎◌, ⊎_elim, ℕ, ◌+◌, ◌-◌, ◌*◌, ◌<◌, ◌≤◌, ℤ, pos, List, [], ◌∷◌, ◌++◌, length, get_or, set, take, replicate, sym, ap, ap₂, ◌∙◌, subst, subst₂, arith, below_more, get_or-set_other, get_or-set_same}
+use Rattle.std.proofs.lemmas.List.{ext_get_or, drop-replicate, get_or-replicate, get_or_past, length-replicate, length-set, take-replicate}
 use Rattle.exact_math.specs.Ring.{integers}
 use Rattle.gram_minors.specs.IndependenceLaws.{independent_positive}
 use Rattle.gram_minors.specs.Orthogonalisation.{IsIndependent, IsLovaszReduced, rational_rows}
 use Rattle.gram_minors.specs.WholeMinors.{ArePositive}
+use Rattle.lattice_reduce.proofs.LastSteps.{length-with_last, row_before, row_last}
 use Rattle.lattice_reduce.proofs.StepLaws.{settled_none, settled_reduced}
+use Rattle.lattice_reduce.specs.Beside.{with_last}
 use Rattle.lattice_reduce.specs.Numbers.{items_of, IsTriangular}
 use Rattle.lattice_reduce.specs.States.{SettledTo, Moved, Stopped, Leaves}
 use Rattle.lattice_reduce.specs.Reductions.{Reduces, IsSettled, pair_behind}
@@ -25,10 +27,29 @@ copied_more t s i row size below below' long is done =
     (below_more _ _ (λ j lt. get_or-set_other (rows_in t) i j row [] (omega arith) ∙ done j lt) (get_or-set_same (rows_in t) i row [] (omega (arith, long_rows)) ∙ is ∙ sym (rows_in-at s i below')))
 
 -- all rows
-pub copied_all : (t s : Table ℤ) (i : ℕ) → t.rows ≡ s.rows → s.rows ≤ i → ((j : ℕ) → j < i → get_or (rows_in t) j [] ≡ get_or (rows_in s) j []) → rows_in t ≡ rows_in s
-copied_all t s i same past done =
+pub copied_all : (t s : Table ℤ) → t.rows ≡ s.rows → ((j : ℕ) → j < s.rows → get_or (rows_in t) j [] ≡ get_or (rows_in s) j []) → rows_in t ≡ rows_in s
+copied_all t s same done =
     let long = length-rows_in t in
     ext_get_or [] (rows_in t) (rows_in s) (long ∙ same ∙ sym (length-rows_in s)) (λ j lt. done j (omega (arith, long, same)))
+
+-- all rows and one more
+pub copied_last : (t s : Table ℤ) (r : ℕ) (row last : List ℤ) → length t.items ≡ t.rows * t.width → r ≡ s.rows → t.rows ≡ s.rows + 1 → length row ≡ t.width → row ≡ last
+    → ((j : ℕ) → j < s.rows → get_or (rows_in t) j [] ≡ get_or (rows_in s) j []) → rows_in (with_row t r row) ≡ with_last (rows_in s) last
+copied_last t s r row last size end more long is done =
+    let below : r < t.rows = omega arith in
+    let count = length-rows_in s in
+    let all = length-rows_in t in
+    let wide : length (set (rows_in t) r row) ≡ length (with_last (rows_in s) last) = length-set (rows_in t) r row ∙ all ∙ more ∙ ap (λ m. m + 1) (sym count) ∙ sym (length-with_last (rows_in s) last) in
+    rows_in-with_row t r row size below long
+    ∙ ext_get_or [] (set (rows_in t) r row) (with_last (rows_in s) last) wide
+    (λ j lt.
+    ⊎_elim
+    (λ (before : j < s.rows). let ne : j ≢ r = omega arith in get_or-set_other (rows_in t) r j row [] ne ∙ done j before ∙ sym (row_before (rows_in s) last j (omega (arith, count))))
+    (λ (same : j ≡ s.rows). ap (λ m. get_or (set (rows_in t) r row) m []) (same ∙ sym end) ∙ get_or-set_same (rows_in t) r row [] (omega (arith, all)) ∙ is ∙ sym (ap (λ m. get_or (with_last (rows_in s) last) m []) (same ∙ sym count) ∙ row_last (rows_in s) last))
+    (cases j s.rows (omega (arith, lt, wide, count, length-with_last (rows_in s) last))))
+  where
+    cases : (j r : ℕ) → j < r + 1 → (j < r) ⊎ (j ≡ r)
+    cases j r lt = grind arith
 
 -- an item of a matrix of zeros
 zero_at : (h w i j : ℕ) → items_of (rows_in (filled h w (pos 0))) i j ≡ pos 0

@@ -8,3 +8,4 @@ pub mod CopySteps
 pub mod ProductSteps
 pub mod IndependentRows
 pub mod RaisedSteps
+pub mod LastSteps
