@@ -9,3 +9,6 @@ pub mod ProductSteps
 pub mod IndependentRows
 pub mod RaisedSteps
 pub mod LastSteps
+pub mod BesideSteps
+pub mod ShiftSteps
+pub mod EndSteps
