@@ -1,5 +1,5 @@
 -- A basis copied row by row, and where its reduction begins.
-use Rattle.std.proofs.Common.{◌≡◌, ◌≢◌, ◌⊎◌, ⊎_elim, ℕ, ◌+◌, ◌-◌, ◌*◌, ◌<◌, ◌≤◌, ℤ, pos, List, [], ◌∷◌, ◌++◌, length, get_or, set, take, replicate, sym, ap, ap₂, ◌∙◌, subst, subst₂, arith, below_more, get_or-set_other, get_or-set_same}
+use Rattle.std.proofs.Common.{◌≡◌, ◌≢◌, ◌⊎◌, ⊎_elim, ℕ, ◌+◌, ◌-◌, ◌*◌, ◌<◌, ◌≤◌, ℤ, pos, List, [], ◌++◌, length, get_or, set, take, replicate, sym, ap, ap₂, ◌∙◌, subst, subst₂, arith, below_more, get_or-set_other, get_or-set_same}
 use Rattle.std.proofs.lemmas.List.{ext_get_or, drop-replicate, get_or-replicate, get_or_past, length-replicate, length-set, take-replicate}
 use Rattle.exact_math.specs.Ring.{integers}
 use Rattle.gram_minors.specs.IndependenceLaws.{independent_positive}

@@ -1,4 +1,4 @@
-use Rattle.std.proofs.Common.{◌+◌, pos, length, sym, ap, ◌∙◌}
+use Rattle.std.proofs.Common.{◌+◌, pos, length, ap, ◌∙◌}
 use Rattle.lattice_reduce.proofs.CopySteps.{begun_settled}
 use Rattle.spaces.specs.Tables.{filled}
 use Rattle.unimodular_pair.specs.PairLaws.{length-identity}

@@ -1,4 +1,4 @@
-use Rattle.std.proofs.Common.{◌∙◌, subst₂, subst, sym}
+use Rattle.std.proofs.Common.{subst}
 use Rattle.lattice_reduce.proofs.CopySteps.{excused_end, moved_end, reduces_end}
 use Rattle.lattice_reduce.specs.States.{SettledTo}
 use Rattle.lattice_reduce.proofs.lattice.reduction_of.Goals as goal
