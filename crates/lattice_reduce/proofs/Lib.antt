@@ -12,3 +12,4 @@ pub mod LastSteps
 pub mod BesideSteps
 pub mod ShiftSteps
 pub mod EndSteps
+pub mod ResidueSteps
