@@ -13,3 +13,5 @@ pub mod BesideSteps
 pub mod ShiftSteps
 pub mod EndSteps
 pub mod ResidueSteps
+pub mod BoundSteps
+pub mod BeyondSteps
