@@ -4,8 +4,8 @@
 
 mod columns;
 mod laws;
-mod line;
 mod lifting;
+mod line;
 mod outcome;
 mod placing;
 mod presolving;

@@ -1,8 +1,9 @@
 //! Combinations of the inequalities of reduced rows, as combinations of those of the model.
-ghost use Rattle.std.specs.Prelude.{◌≡◌, ◌≢◌, ◌≤◌, ◌^◌, ◌<◌, ◌+◌, ◌*◌, ℕ, pos, ◌++◌, ◌∷◌, [], length, nat_abs, List, All, None, Option, IfErr, IfOk, OnErr, OnOk, OkIff, slice_index, IfSome, IsTrue, ◌↔◌, ◌⊎◌, ℤ};
+ghost use Rattle.std.specs.Prelude.{◌≡◌, ◌≢◌, ◌≤◌, ◌^◌, ◌<◌, ◌+◌, ◌*◌, ℕ, pos, ◌++◌, ◌∷◌, [], length, nat_abs, List, All, None, Option, IfErr, IfOk, OnErr, OnOk, OkIff, slice_index, slice_index_or, IfSome, IsTrue, ◌↔◌, ◌⊎◌, ℤ};
 ghost use Rattle.std.specs.List.Sorted.{IsStrictlyIncreasing};
 ghost use Rattle.exact_math.specs.Rational.{whole, ◌+ℚ◌, ◌*ℚ◌, ◌<ℚ◌};
 ghost use Rattle.spaces.specs.Stops.{StopsUnless};
+ghost use Rattle.whole_rows.specs.WholeRows.{span};
 ghost use Rattle.farkas_rows.specs.Inequalities.{Inequality};
 ghost use Rattle.farkas_rows.specs.declared.path.Slice.{Slice};
 ghost use Rattle.presolve_map.specs.LiftedLines.{numbers_of, upper_bound, lower_bound, bound_of, column_sum, cost_in, factor_in, ColumnStays, ComesToSame, IsLiftedLine, IsNodeOverKept, IsPutIn, IsRemoved, IsWith, IsWorkNumber, ItemStays, LineStays};
@@ -12,7 +13,7 @@ use frac128::{Frac, Wide};
 use sequence::NoMemory;
 use spaces::MapStop;
 use std::alloc::Global;
-use whole_rows::DenseRows;
+use whole_rows::{Bounds, DenseRows};
 
 /// A combination of the inequalities of reduced rows: the multiplier of the cut, 0 where there is none, and multipliers above 0
 /// under the numbers that the inequalities have in the model.
@@ -69,7 +70,8 @@ fn column_sum(rows: &DenseRows, times: &WorkTimes, column: usize) -> Result<Frac
 {
     let mut sum = times.cut.mul(&cost_of(rows, column))?;
     for item in times.items.items() {
-        sum = with_item(&sum, &item.times, factor_of(rows, item.index, column))?;
+        let factor = Frac::whole(factor_of(rows, item.index, column));
+        sum = with_item(&sum, &item.times, &factor)?;
     }
     Ok(sum)
 }
@@ -79,18 +81,29 @@ fn cost_of(rows: &DenseRows, column: usize) -> Frac
     requires { column < length rows.now.box }
     ensures { result ≡ cost_in rows.now column }
 {
-    Frac::whole(rows.cost()[column])
+    Frac::whole(light_factor(rows.cost(), rows.bounds(), column))
+}
+
+/// One of the factors of a light form, which is small.
+fn light_factor(factors: &[i128], bounds: &[Bounds], column: usize) -> i128
+    requires same_length { length factors.now ≡ length bounds.now }
+    requires column { column < length bounds.now }
+    requires light { span factors.now bounds.now ≤ 2 ^ 96 }
+    ensures value { result ≡ slice_index_or factors.now column (pos 0) }
+    ensures small { nat_abs result ≤ 2 ^ 96 }
+{
+    factors[column]
 }
 
 /// The sum with a multiple of a factor.
-fn with_item(sum: &Frac, times: &Frac, factor: i128) -> Result<Frac, Wide>
-    requires { nat_abs factor < 2 ^ 127 }
-    ensures { OkIff result (ItemStays sum.now times.now (whole factor)) (sum.now +ℚ times.now *ℚ whole factor) }
+#[tactic(auto, using(crate::proofs::LineLaws::nothing_added))]
+fn with_item(sum: &Frac, times: &Frac, factor: &Frac) -> Result<Frac, Wide>
+    ensures { OkIff result (ItemStays sum.now times.now factor.now) (sum.now +ℚ times.now *ℚ factor.now) }
 {
-    if factor == 0 {
+    if factor.num() == 0 {
         return Ok(*sum);
     }
-    let product = times.mul(&Frac::whole(factor))?;
+    let product = times.mul(factor)?;
     sum.add(&product)
 }
 
@@ -106,7 +119,7 @@ fn factor_of(rows: &DenseRows, number: u32, column: usize) -> i128
     if at >= rows.rows() {
         return 0;
     }
-    let factor = rows.row(at)[column];
+    let factor = light_factor(rows.row(at), rows.bounds(), column);
     if number % 2 == 1 { -factor } else { factor }
 }
 
