@@ -1,6 +1,6 @@
 //! Small roots, with what is left of them found by hand.
 use crate::{Presolved, WorkTimes, lift_line, presolve};
-use farkas_rows::{FracUse, OriginalTimes};
+use farkas_rows::OriginalTimes;
 use frac128::Frac;
 use sequence::NoMemory;
 use std::alloc::Global;
@@ -72,22 +72,13 @@ fn a_bound_takes_the_sum_of_a_removed_column(rt: HostRuntime) -> Result<(), Fail
         8,
         8,
     )?;
-    let mut items = OriginalTimes::new(rt.alloc());
-    items.push(FracUse {
-        index: 1,
-        times: Frac::whole(2),
-    })?;
-    items.push(FracUse {
-        index: 4,
-        times: Frac::whole(5),
-    })?;
     let times = WorkTimes {
         cut: Frac::whole(1),
-        items,
+        items: OriginalTimes::new(rt.alloc()),
     };
     let line = lift_line(rt.alloc(), &rows, &times)?;
-    assert_eq!(rt; line.items().len(), 3);
-    assert_eq!(rt; line.items()[1].index, 2);
-    assert_eq!(rt; line.items()[1].times, Frac::whole(4));
+    assert_eq!(rt; line.items().len(), 1);
+    assert_eq!(rt; line.items()[0].index, 3);
+    assert_eq!(rt; line.items()[0].times, Frac::whole(2));
     Ok(())
 }
