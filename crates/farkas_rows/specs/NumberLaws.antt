@@ -91,3 +91,7 @@ module _ (rows : WholeRows) (path : List Slice) (end : Option Inequality) where
   -- the end of a split
   pub number-end : inequality_at rows path end (2 * length rows.rows + 2 * length rows.box + 2 * length path) ≡ end
   number-end = pairs-past (λ (row : WholeRow). option_map (at_most row.factors) row.high) (λ (row : WholeRow). option_map (at_least row.factors) row.low) rows.rows _ (2 * length rows.box + 2 * length path) (2 * length rows.rows + 2 * length rows.box + 2 * length path) (omega arith) ∙ bounds-past (length rows.box) 0 rows.box _ (2 * length path) (2 * length rows.box + 2 * length path) refl ∙ pairs-past (λ (slice : Slice). Some (at_most slice.form slice.beta)) (λ (slice : Slice). Some (at_least slice.form slice.beta)) path _ 0 (2 * length path) (omega arith)
+
+  -- past it there is none
+  pub number-past : (m : ℕ) → inequality_at rows path end (2 * length rows.rows + 2 * length rows.box + 2 * length path + suc m) ≡ None
+  number-past m = pairs-past (λ (row : WholeRow). option_map (at_most row.factors) row.high) (λ (row : WholeRow). option_map (at_least row.factors) row.low) rows.rows _ (2 * length rows.box + 2 * length path + suc m) (2 * length rows.rows + 2 * length rows.box + 2 * length path + suc m) (omega arith) ∙ bounds-past (length rows.box) 0 rows.box _ (2 * length path + suc m) (2 * length rows.box + 2 * length path + suc m) (omega arith) ∙ pairs-past (λ (slice : Slice). Some (at_most slice.form slice.beta)) (λ (slice : Slice). Some (at_least slice.form slice.beta)) path _ (suc m) (2 * length path + suc m) refl
