@@ -1,0 +1,4 @@
+pub mod Widths
+pub mod PairSystems
+pub mod Gauges
+pub mod PairLaws

@@ -1,0 +1,6 @@
+//! Widths of forms on the rational points of a system.
+#![tactic(auto)]
+
+mod gauge;
+
+pub use gauge::Gauge;
