@@ -1,5 +1,5 @@
 -- The answers at the ends of the pivots.
-use Rattle.std.proofs.Common.{◌≡◌, ℕ, List, length, refl, sym, ap, subst, ◌∙◌}
+use Rattle.std.proofs.Common.{◌≡◌, ℕ, List, length, sym, ap, subst, ◌∙◌}
 use Rattle.lp_dict.specs.Dictionaries.{Dictionary}
 use Rattle.lp_solve.specs.Ended.{EndsLeast, EndsEmpty, EndsSo}
 use Rattle.lp_solve.specs.Rule.{AreLegal, after, form_at}

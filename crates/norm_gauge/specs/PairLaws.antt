@@ -84,17 +84,20 @@ agree_meets n (row ∷ fixed) x y w e a =
     let both = at_most_zero (difference row x y) (no_difference (dot rationals row x) (dot rationals row y) heads) in
     (subst (λ t. t ≤ℚ none) (sym (difference_row row x y (w.0 ∙ sym e))) both.0, (subst (λ t. t ≤ℚ none) (sym (difference_row-negated row x y (w.0 ∙ sym e))) both.1, agree_meets n fixed x y w.1 e rest))
 
+-- an inequality with both sides written in another way
+le_as : (p q s t : ℚ) → p ≡ s → q ≡ t → p ≤ℚ q → s ≤ℚ t
+le_as p q s t e f l = subst (λ z. z ≤ℚ t) e (subst (λ z. p ≤ℚ z) f l)
+
 -- a number that is at most 0 with both signs is 0
 zero_from_both : (a b : ℚ) → (a -ℚ b) ≤ℚ none → neg_ℚ (a -ℚ b) ≤ℚ none → a ≡ b
 zero_from_both a b h k =
-    Order.le_antisym a b (subst2_le _ _ (back a b) (Laws.zero_add rationals b) (Order.add_le_right (a -ℚ b) none b h)) (subst2_le _ _ (forth a b) (Laws.zero_add rationals a) (Order.add_le_right (neg_ℚ (a -ℚ b)) none a k))
+    Order.le_antisym a b (le_as ((a -ℚ b) +ℚ b) (none +ℚ b) a b (back a b) (Laws.zero_add rationals b) (Order.add_le_right (a -ℚ b) none b h))
+    (le_as (neg_ℚ (a -ℚ b) +ℚ a) (none +ℚ a) b a (forth a b) (Laws.zero_add rationals a) (Order.add_le_right (neg_ℚ (a -ℚ b)) none a k))
   where
     back : (a b : ℚ) → (a -ℚ b) +ℚ b ≡ a
     back a b = ring rationals (a ∷ b ∷ []) (search reads depth 30) (search reads depth 30) refl
     forth : (a b : ℚ) → neg_ℚ (a -ℚ b) +ℚ a ≡ b
     forth a b = ring rationals (a ∷ b ∷ []) (search reads depth 30) (search reads depth 30) refl
-    subst2_le : (p q : ℚ) {p' q' : ℚ} → p ≡ p' → q ≡ q' → p ≤ℚ q → p' ≤ℚ q'
-    subst2_le p q e f l = subst (λ t. t ≤ℚ _) e (subst (λ t. p ≤ℚ t) f l)
 
 -- .. and only these do
 agree_from : (n : ℕ) (fixed : List (List ℚ)) (x y : List ℚ) → HasWidth n fixed → length x ≡ n → AllZip ◌≤ℚ◌ (times_vector rationals (differences fixed) (x ++ y)) (no_differences fixed) → times_vector rationals fixed x ≡ times_vector rationals fixed y
