@@ -2,5 +2,6 @@
 #![tactic(auto)]
 
 mod gauge;
+mod pairs;
 
 pub use gauge::Gauge;
