@@ -16,9 +16,9 @@ use Rattle.spaces.specs.Tables.{Table, rows_in}
 use Rattle.spaces.specs.TableLaws as Table
 use Rattle.lp_dict.specs.Dictionaries.{none}
 use Rattle.lp_dict.specs.Systems.{wholes, whole_rows, left_sides}
-use Rattle.norm_gauge.specs.PairSystems.{row_on_first, row_on_second, differences, no_differences, pair_rows, pair_limits, pair_form}
+use Rattle.norm_gauge.specs.PairSystems.{row_on_first, row_on_second, differences, no_differences, pair_rows, pair_limits, pair_system, pair_form}
 use Rattle.norm_gauge.specs.PairTables.{pair_row, difference_rows, pair_items, pair_table, pair_sides}
-use Rattle.norm_gauge.specs.Widths.{first_rows}
+use Rattle.norm_gauge.specs.Widths.{Polytope, first_rows, polytope_of}
 
 -- ---- a row with a sign, as rational numbers
 
@@ -126,6 +126,10 @@ wholes-zeros : (n : ℕ) → wholes (zeros integers n) ≡ zeros rationals n
 wholes-zeros zero = refl
 wholes-zeros (suc n) = ap (λ (l : List ℚ). none ∷ l) (wholes-zeros n)
 
+whole_wide : (n : ℕ) (rows : List (List ℤ)) → HasWidth n rows → HasWidth n (whole_rows rows)
+whole_wide n [] w = tt
+whole_wide n (row ∷ rows) w = (length-map row whole ∙ w.0, whole_wide n rows w.1)
+
 module _ (t basis : Table ℤ) (i : ℕ) (size : length t.items ≡ t.rows * t.width) (basis_size : length basis.items ≡ basis.rows * basis.width) (width : basis.width ≡ t.width) (within : i ≤ basis.rows) where
   wide : HasWidth t.width (rows_in t)
   wide = Table.HasWidth-rows_in t size
@@ -186,18 +190,19 @@ module _ (t basis : Table ℤ) (i : ℕ) (size : length t.items ≡ t.rows * t.w
       let ends : wholes (zeros integers (i + i)) ≡ no_differences (first_rows basis i) = wholes-zeros (i + i) ∙ ap (λ m. zeros rationals (m + m)) (sym many) ∙ sym (no_differences-zeros (first_rows basis i)) in
       map-append whole limits (limits ++ zeros integers (i + i)) ∙ ap (λ l. wholes limits ++ l) (map-append whole limits (zeros integers (i + i)) ∙ ap (λ l. wholes limits ++ l) ends)
 
--- a table whose basis rows are wide gives wide rows
-pub first_rows-wide : (n i : ℕ) (basis : Table ℤ) → basis.width ≡ n → length basis.items ≡ basis.rows * basis.width → HasWidth n (first_rows basis i)
-first_rows-wide n i basis w size = subst (HasWidth n) (take-whole_rows i (rows_in basis)) (whole_wide n (take i (rows_in basis)) (HasWidth-take n i (rows_in basis) (subst (λ m. HasWidth m (rows_in basis)) w (Table.HasWidth-rows_in basis size))))
-  where
-    whole_wide : (n : ℕ) (rows : List (List ℤ)) → HasWidth n rows → HasWidth n (whole_rows rows)
-    whole_wide n [] w = tt
-    whole_wide n (row ∷ rows) w = (length-map row whole ∙ w.0, whole_wide n rows w.1)
+  -- it is the pair system
+  pub pairs_polytope : (limits : List ℤ) → polytope_of (pair_table t basis i) (pair_sides limits i) ≡ pair_system (polytope_of t limits) (first_rows basis i)
+  pairs_polytope limits = ap₂ {C = Polytope} (λ (rows : List (List ℚ)) (sides : List ℚ). record { coordinates = t.width + t.width; rows = rows; limits = sides }) pairs_rows (pairs_limits limits)
 
--- the rows of a system are wide
-pub left_sides-wide : (t : Table ℤ) → length t.items ≡ t.rows * t.width → HasWidth t.width (left_sides t)
-left_sides-wide t size = whole_wide t.width (rows_in t) (Table.HasWidth-rows_in t size)
-  where
-    whole_wide : (n : ℕ) (rows : List (List ℤ)) → HasWidth n rows → HasWidth n (whole_rows rows)
-    whole_wide n [] w = tt
-    whole_wide n (row ∷ rows) w = (length-map row whole ∙ w.0, whole_wide n rows w.1)
+  -- the rows on which the points agree have as many factors as coordinates
+  pub first_rows-wide : HasWidth t.width (first_rows basis i)
+  first_rows-wide = subst (HasWidth t.width) (take-whole_rows i (rows_in basis)) (whole_wide t.width (take i (rows_in basis)) fixed_wide)
+
+  -- how many they are
+  pub first_rows-count : length (first_rows basis i) ≡ i
+  first_rows-count = ap length (sym (take-whole_rows i (rows_in basis))) ∙ length-map (take i (rows_in basis)) wholes ∙ fixed_count
+
+
+  -- the rows of the system have too
+  pub left_sides-wide : HasWidth t.width (left_sides t)
+  left_sides-wide = whole_wide t.width (rows_in t) wide

@@ -6,6 +6,7 @@ use Rattle.exact_vectors.specs.Vectors.{dot}
 use Rattle.exact_vectors.specs.Matrices.{times_vector}
 use Rattle.spaces.specs.Tables.{Table}
 use Rattle.lp_dict.specs.Systems.{IsPoint, left_sides, wholes}
+use Rattle.lp_solve.specs.Certificates.{IsBounded}
 
 -- the rational points `y` of `coordinates` coordinates with `G*y <= h`, G being the rows and h the limits
 pub record Polytope : Type 0 where
@@ -20,6 +21,15 @@ polytope_of rows limits = record { coordinates = rows.width; rows = left_sides r
 -- `y` is a point of the polytope
 abbrev pub Has : Polytope → List ℚ → Type 0
 Has p y = IsPoint p.coordinates p.rows p.limits y
+
+-- it has a point
+pub record IsInhabited (p : Polytope) : Type 0 where
+  pub point : List ℚ
+  pub has : Has p point
+
+-- its points are bounded
+abbrev pub HasBound : Polytope → Type 0
+HasBound p = IsBounded p.coordinates p.rows p.limits
 
 -- two points of the polytope that agree on each row of `fixed`
 pub record ArePair (p : Polytope) (fixed : List (List ℚ)) (high low : List ℚ) : Type 0 where

@@ -3,5 +3,8 @@
 
 mod gauge;
 mod pairs;
+mod program;
+mod widths;
 
 pub use gauge::Gauge;
+pub use widths::width;

@@ -4,7 +4,11 @@ ghost use Rattle.std.specs.List.{All};
 ghost use Rattle.exact_math.specs.Ring.{integers};
 ghost use Rattle.exact_vectors.specs.Vectors.{scale};
 ghost use Rattle.frac128.specs.Range.{IsNarrow};
+ghost use Rattle.exact_vectors.specs.Matrices.{HasWidth};
+ghost use Rattle.lp_dict.specs.Systems.{left_sides};
 ghost use Rattle.spaces.specs.Tables.{rows_in};
+ghost use Rattle.norm_gauge.specs.PairSystems.{pair_system};
+ghost use Rattle.norm_gauge.specs.Widths.{first_rows, polytope_of};
 ghost use Rattle.norm_gauge.specs.PairTables.{pair_row, difference_rows, pair_items, pair_sides, pair_table};
 
 use lp_dict::{Limits, System};
@@ -123,6 +127,9 @@ pub(crate) fn system_of_pairs(
     requires narrow_basis { All IsNarrow basis.now.items }
     ensures rows { IfOk result (λ pairs. pairs.rows ≡ pair_table system.now.rows basis.now i) }
     ensures limits { IfOk result (λ pairs. pairs.limits ≡ pair_sides system.now.limits i) }
+    ensures polytope { OnOk result (polytope_of (pair_table system.now.rows basis.now i) (pair_sides system.now.limits i) ≡ pair_system (polytope_of system.now.rows system.now.limits) (first_rows basis.now i)) }
+    ensures wide_rows { OnOk result (HasWidth system.now.rows.width (left_sides system.now.rows)) }
+    ensures wide_basis { OnOk result (HasWidth system.now.rows.width (first_rows basis.now i)) }
 {
     let count = system.rows.rows();
     let width = basis.width();

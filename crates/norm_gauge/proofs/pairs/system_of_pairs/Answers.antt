@@ -1,5 +1,6 @@
 use Rattle.std.proofs.Common.{◌≡◌, ◌+◌, ◌*◌, length, sym, ap, ap₂, ◌∙◌, arith}
-use Rattle.norm_gauge.specs.PairTableLaws.{pairs_size}
+use Rattle.norm_gauge.specs.PairTableLaws.{pairs_size, pairs_polytope, first_rows-wide, left_sides-wide}
+use Rattle.norm_gauge.specs.Widths.{polytope_of}
 use Rattle.norm_gauge.proofs.pairs.system_of_pairs.Goals as goal
 
 pub copy_from_slice-requires : goal.copy_from_slice-requires
@@ -11,3 +12,12 @@ copy_from_slice-requires c =
     let rows : c.in_ok-rows.rows.rows ≡ (t.rows + t.rows) + (c.args.i + c.args.i) = ap (λ r. r.rows) c.in_ok-rows.ensures ∙ ap (λ m. (m + m) + (c.args.i + c.args.i)) c.rows-count.ensures.count in
     let columns : c.in_ok-rows.rows.width ≡ t.width + t.width = ap (λ r. r.width) c.in_ok-rows.ensures ∙ ap (λ n. n + n) width in
     c.items_mut.ensures.size ∙ ap₂ (λ a b. a * b) rows columns ∙ sym size ∙ sym (ap length (c.as_slice.ensures.value ∙ c.in_ok-items.ensures))
+
+pub returns-clause-wide_rows : goal.returns-clause-wide_rows
+returns-clause-wide_rows c = left_sides-wide c.args.system.now.rows c.args.basis.now c.args.i c.rows-count.ensures.size c.width-width.ensures.size c.requires.same_width c.requires.within
+
+pub returns-clause-wide_basis : goal.returns-clause-wide_basis
+returns-clause-wide_basis c = first_rows-wide c.args.system.now.rows c.args.basis.now c.args.i c.rows-count.ensures.size c.width-width.ensures.size c.requires.same_width c.requires.within
+
+pub returns-clause-polytope : goal.returns-clause-polytope
+returns-clause-polytope c = pairs_polytope c.args.system.now.rows c.args.basis.now c.args.i c.rows-count.ensures.size c.width-width.ensures.size c.requires.same_width c.requires.within c.args.system.now.limits
