@@ -1,5 +1,5 @@
 -- The gauges that the programs show, and their excuses.
-use Rattle.std.proofs.Common.{◌≡◌, ℕ, ◌+◌, ◌≤◌, ℤ, List, [], ◌∷◌, ◌++◌, length, take, drop, refl, sym, ap, subst, ◌∙◌, ◌⊎◌, inl, inr}
+use Rattle.std.proofs.Common.{◌≡◌, ℕ, List, [], refl, sym, ap, subst, ◌∙◌, inl, inr}
 
 use Rattle.exact_math.specs.Rational.{ℚ, neg_ℚ, ◌-ℚ◌, ◌≤ℚ◌}
 use Rattle.exact_math.specs.RationalRing.{rationals}
@@ -9,14 +9,12 @@ use Rattle.exact_vectors.specs.DotLaws as Dot
 use Rattle.frac128.specs.Range.{SumInRange}
 use Rattle.lp_solve.specs.Ended.{EndsLeast}
 use Rattle.lp_solve.specs.Outcomes.{StopIs, ExcuseIs}
-use Rattle.lp_solve.specs.declared.answer.LpExcuse.{LpExcuse}
 use Rattle.lp_solve.specs.declared.answer.LpExcuse.TheVariants.{WidePivot, ManyPivots, WideGauge}
 use Rattle.lp_solve.specs.declared.answer.LpStop.{LpStop}
 use Rattle.lp_solve.specs.declared.answer.LpStop.TheVariants.{Excuse, NoMemory}
 use Rattle.norm_gauge.specs.Gauges.{IsGauge, IsLeastAt, program, WidthStopIs, WideEnds}
 use Rattle.norm_gauge.specs.PairLaws.{most_from_ends}
-use Rattle.norm_gauge.specs.Widths.{Polytope, Has, IsAtMost, difference}
-use Rattle.norm_gauge.specs.declared.gauge.Gauge.{Gauge}
+use Rattle.norm_gauge.specs.Widths.{Polytope, Has, IsAtMost}
 
 -- ---- excuses of single programs
 

@@ -22,12 +22,12 @@ use Rattle.norm_gauge.specs.Gauges.{IsGauge, IsLeastAt, WeightsShow, program, Wi
 use Rattle.norm_gauge.specs.PairLaws.{pair_from_point, point_from_pair, most_from_pairs, difference_row-negated}
 use Rattle.norm_gauge.specs.PairSystems.{pair_system, pair_form}
 use Rattle.norm_gauge.specs.PairTables.{pair_row, pair_table, pair_sides}
-use Rattle.norm_gauge.specs.Widths.{Polytope, Has, HasBound, IsInhabited, IsAtMost, ArePair, difference, first_rows, polytope_of}
+use Rattle.norm_gauge.specs.Widths.{AreNarrow, Polytope, Has, HasBound, IsInhabited, IsAtMost, ArePair, difference, first_rows}
 use Rattle.norm_gauge.specs.declared.gauge.Gauge.{Gauge}
 use Rattle.norm_gauge.proofs.NarrowSteps.{pairs_condition}
 
 -- a table that is the pair system meets the condition with the form
-pub condition_of_pairs : (t basis pairs : Table ℤ) (limits form sides apart : List ℤ) (i : ℕ) → MeetsCondition t limits form → ((t.rows + t.rows) + (i + i) + 1) * (t.width + t.width + 1) ≤ 2 ^ 31 → All IsNarrow basis.items
+pub condition_of_pairs : (t basis pairs : Table ℤ) (limits form sides apart : List ℤ) (i : ℕ) → MeetsCondition t limits form → ((t.rows + t.rows) + (i + i) + 1) * (t.width + t.width + 1) ≤ 2 ^ 31 → AreNarrow (rows_in basis)
     → pairs ≡ pair_table t basis i → sides ≡ pair_sides limits i → apart ≡ pair_row (negsuc 0) (pos 1) form → MeetsCondition pairs sides apart
 condition_of_pairs t basis pairs limits form sides apart i condition few narrow rows right last =
     subst (λ f. MeetsCondition pairs sides f) (sym last) (subst (λ l. MeetsCondition pairs l (pair_row (negsuc 0) (pos 1) form)) (sym right) (subst (λ r. MeetsCondition r (pair_sides limits i) (pair_row (negsuc 0) (pos 1) form)) (sym rows) (pairs_condition t basis limits form i condition few narrow)))

@@ -1,15 +1,14 @@
 -- What the loops that write the pair system use.
-use Rattle.std.proofs.Common.{◌≡◌, ℕ, zero, suc, ◌+◌, ◌*◌, ◌<◌, ◌≤◌, ℤ, pos, negsuc, List, [], ◌∷◌, ◌++◌, length, map, get_or, take, drop, refl, sym, ap, ap₂, ◌∙◌, arith, add-one, append_assoc, length-append}
+use Rattle.std.proofs.Common.{◌≡◌, ℕ, zero, suc, ◌+◌, ◌<◌, ◌≤◌, ℤ, List, [], ◌∷◌, ◌++◌, length, get_or, take, refl, sym, ap, ap₂, ◌∙◌, arith, add-one, append_assoc, length-append}
 use Rattle.std.specs.Prelude.{flat_map}
-use Rattle.std.proofs.lemmas.List.{length-map, take_all}
+use Rattle.std.proofs.lemmas.List.{take_all}
 use Rattle.std.proofs.lemmas.List.Concat.{flat_map-cons}
 use Rattle.exact_math.specs.Ring.{integers}
 use Rattle.exact_vectors.specs.Vectors.{scale}
-use Rattle.exact_vectors.specs.Matrices.{HasWidth}
 use Rattle.exact_vectors.specs.MatrixLaws as Matrix
 use Rattle.spaces.specs.Tables.{Table, rows_in, row_at}
 use Rattle.spaces.specs.TableLaws as Table
-use Rattle.norm_gauge.specs.PairTables.{pair_row, difference_rows, pair_items, pair_table}
+use Rattle.norm_gauge.specs.PairTables.{pair_row}
 
 -- one more row is taken
 flat_map-take : (f : List ℤ → List ℤ) (rows : List (List ℤ)) (k : ℕ) → k < length rows → flat_map f (take (suc k) rows) ≡ flat_map f (take k rows) ++ f (get_or rows k [])

@@ -1,5 +1,5 @@
 -- The answers of linear programs, said of polytopes.
-use Rattle.std.proofs.Common.{◌≡◌, ℤ, List, length, sym, subst, ◌∙◌}
+use Rattle.std.proofs.Common.{◌≡◌, ℤ, List, sym, subst, ◌∙◌}
 use Rattle.std.proofs.lemmas.List.{length-map}
 use Rattle.exact_math.specs.Rational.{ℚ, whole, ◌≤ℚ◌}
 use Rattle.exact_math.specs.RationalRing.{rationals}

@@ -1,8 +1,8 @@
 -- The points of the pair system are the pairs of points that agree on the rows, and its program's value is minus the width.
-use Rattle.std.proofs.Common.{◌≡◌, ℕ, zero, suc, ◌+◌, ◌≤◌, pos, List, [], ◌∷◌, ◌++◌, length, map, take, drop, refl, sym, ap, ap₂, subst, ◌∙◌, arith, length-append}
+use Rattle.std.proofs.Common.{◌≡◌, ℕ, ◌+◌, List, [], ◌∷◌, ◌++◌, length, map, take, drop, refl, sym, ap, ap₂, subst, ◌∙◌, arith, length-append}
 use Rattle.std.specs.List.{AllZip}
 use Rattle.std.proofs.lemmas.List.{length-map, length-take, length-drop, take-append-drop}
-use Rattle.exact_math.specs.Rational.{ℚ, whole, neg_ℚ, ◌+ℚ◌, ◌-ℚ◌, ◌≤ℚ◌}
+use Rattle.exact_math.specs.Rational.{ℚ, neg_ℚ, ◌+ℚ◌, ◌-ℚ◌, ◌≤ℚ◌}
 use Rattle.exact_math.specs.RationalOrder as Order
 use Rattle.exact_math.specs.RationalRing.{rationals}
 use Rattle.exact_math.specs.RingLaws as Laws
@@ -13,7 +13,7 @@ use Rattle.exact_vectors.specs.DotLaws as Dot
 use Rattle.exact_vectors.specs.MatrixLaws as Matrix
 use Rattle.lp_dict.specs.Dictionaries.{none}
 use Rattle.norm_gauge.specs.Widths.{Polytope, Has, ArePair, IsAtMost, difference}
-use Rattle.norm_gauge.specs.PairSystems.{row_on_first, row_on_second, differences, no_differences, pair_rows, pair_limits, pair_system, pair_form}
+use Rattle.norm_gauge.specs.PairSystems.{row_on_first, row_on_second, differences, no_differences, pair_rows, pair_system, pair_form}
 
 -- ---- lists joined place by place
 

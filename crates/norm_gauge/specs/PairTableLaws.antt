@@ -1,12 +1,11 @@
 -- The pair system in whole numbers is the pair system.
-use Rattle.std.proofs.Common.{◌≡◌, ℕ, zero, suc, ◌+◌, ◌*◌, ◌<◌, ◌≤◌, ℤ, pos, negsuc, neg_ℤ, ◌*ℤ◌, List, [], ◌∷◌, ◌++◌, length, map, get_or, take, drop, refl, sym, ap, ap₂, subst, ◌∙◌, arith, append_assoc, length-append}
+use Rattle.std.proofs.Common.{◌≡◌, ℕ, zero, suc, ◌+◌, ◌*◌, ◌≤◌, ℤ, pos, negsuc, neg_ℤ, ◌*ℤ◌, List, [], ◌∷◌, ◌++◌, length, map, take, refl, sym, ap, ap₂, subst, ◌∙◌, arith, append_assoc, length-append}
 use Rattle.std.specs.Prelude.{flat_map}
 use Rattle.std.proofs.lemmas.List.{length-map, map-append, length-take}
 use Rattle.std.proofs.lemmas.List.Concat.{flat_map-cons}
 use Rattle.exact_math.specs.IntegerRing.{linear}
-use Rattle.exact_math.specs.Rational.{ℚ, whole, neg_ℚ, ◌*ℚ◌}
+use Rattle.exact_math.specs.Rational.{ℚ, whole, neg_ℚ}
 use Rattle.exact_math.specs.RationalRing.{rationals}
-use Rattle.exact_math.specs.RationalRing as Q
 use Rattle.exact_math.specs.Ring.{integers}
 use Rattle.exact_math.specs.RingLaws as Laws
 use Rattle.exact_vectors.specs.Vectors.{negate, scale, zeros}
@@ -17,7 +16,7 @@ use Rattle.spaces.specs.TableLaws as Table
 use Rattle.lp_dict.specs.Dictionaries.{none}
 use Rattle.lp_dict.specs.Systems.{wholes, whole_rows, left_sides}
 use Rattle.norm_gauge.specs.PairSystems.{row_on_first, row_on_second, differences, no_differences, pair_rows, pair_limits, pair_system, pair_form}
-use Rattle.norm_gauge.specs.PairTables.{pair_row, difference_rows, pair_items, pair_table, pair_sides}
+use Rattle.norm_gauge.specs.PairTables.{pair_row, difference_rows, pair_table, pair_sides}
 use Rattle.norm_gauge.specs.Widths.{Polytope, first_rows, polytope_of}
 
 -- ---- a row with a sign, as rational numbers

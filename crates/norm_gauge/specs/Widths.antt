@@ -1,9 +1,11 @@
 -- The width of a form on the rational points of a system, under rows on which the points agree (Lovász and Scarf, The generalized basis reduction algorithm, Mathematics of Operations Research 17, 1992).
 use Rattle.std.specs.Prelude.{◌≡◌, ℕ, ℤ, List, take}
+use Rattle.std.specs.List.{All}
 use Rattle.exact_math.specs.Rational.{ℚ, ◌-ℚ◌, ◌≤ℚ◌}
 use Rattle.exact_math.specs.RationalRing.{rationals}
 use Rattle.exact_vectors.specs.Vectors.{dot}
 use Rattle.exact_vectors.specs.Matrices.{times_vector}
+use Rattle.frac128.specs.Range.{IsNarrow}
 use Rattle.spaces.specs.Tables.{Table}
 use Rattle.lp_dict.specs.Systems.{IsPoint, left_sides, wholes}
 use Rattle.lp_solve.specs.Certificates.{IsBounded}
@@ -56,3 +58,7 @@ pub record IsWidth (p : Polytope) (fixed : List (List ℚ)) (form : List ℚ) (v
 -- the first `i` rows of a matrix of whole numbers
 abbrev pub first_rows : Table ℤ → ℕ → List (List ℚ)
 first_rows basis i = take i (left_sides basis)
+
+-- no entry of the rows is above 2^127 - 1 in size
+abbrev pub AreNarrow : List (List ℤ) → Type 0
+AreNarrow rows = All (λ row. All IsNarrow row) rows

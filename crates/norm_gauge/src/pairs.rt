@@ -8,7 +8,7 @@ ghost use Rattle.exact_vectors.specs.Matrices.{HasWidth};
 ghost use Rattle.lp_dict.specs.Systems.{left_sides};
 ghost use Rattle.spaces.specs.Tables.{rows_in};
 ghost use Rattle.norm_gauge.specs.PairSystems.{pair_system};
-ghost use Rattle.norm_gauge.specs.Widths.{first_rows, polytope_of};
+ghost use Rattle.norm_gauge.specs.Widths.{AreNarrow, first_rows, polytope_of};
 ghost use Rattle.norm_gauge.specs.PairTables.{pair_row, difference_rows, pair_items, pair_sides, pair_table};
 
 use lp_dict::{Limits, System};
@@ -70,7 +70,7 @@ fn append_differences(
     i: usize,
 ) -> Result<(), NoMemory>
     requires within { i ≤ basis.now.rows }
-    requires narrow { All IsNarrow basis.now.items }
+    requires narrow { AreNarrow (rows_in basis.now) }
     ensures { OnOk result (items.new.items ≡ items.old.items ++ flat_map difference_rows (take i (rows_in basis.now))) }
 {
     for k in 0..i {
@@ -89,7 +89,7 @@ fn rows_of_pairs(
 ) -> Result<Vec<i128>, NoMemory>
     requires within { i ≤ basis.now.rows }
     requires narrow_rows { All IsNarrow rows.now.items }
-    requires narrow_basis { All IsNarrow basis.now.items }
+    requires narrow_basis { AreNarrow (rows_in basis.now) }
     ensures { IfOk result (λ items. items.items ≡ pair_items (rows_in rows.now) (take i (rows_in basis.now))) }
 {
     let mut items = Vec::new(alloc);
@@ -124,7 +124,7 @@ pub(crate) fn system_of_pairs(
     requires same_width { basis.now.width ≡ system.now.rows.width }
     requires few { ((system.now.rows.rows + system.now.rows.rows) + (i + i) + 1) * (system.now.rows.width + system.now.rows.width + 1) ≤ 2 ^ 31 }
     requires narrow_rows { All IsNarrow system.now.rows.items }
-    requires narrow_basis { All IsNarrow basis.now.items }
+    requires narrow_basis { AreNarrow (rows_in basis.now) }
     ensures rows { IfOk result (λ pairs. pairs.rows ≡ pair_table system.now.rows basis.now i) }
     ensures limits { IfOk result (λ pairs. pairs.limits ≡ pair_sides system.now.limits i) }
     ensures polytope { OnOk result (polytope_of (pair_table system.now.rows basis.now i) (pair_sides system.now.limits i) ≡ pair_system (polytope_of system.now.rows system.now.limits) (first_rows basis.now i)) }

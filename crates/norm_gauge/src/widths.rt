@@ -1,11 +1,10 @@
 //! Widths.
 ghost use Rattle.std.specs.Prelude.{◌≡◌, ◌+◌, ◌*◌, ◌<◌, ◌≤◌, ◌^◌, [], length, IfOk, IfErr};
-ghost use Rattle.std.specs.List.{All};
-ghost use Rattle.frac128.specs.Range.{IsNarrow};
 ghost use Rattle.lp_dict.specs.Sizes.{MeetsCondition};
 ghost use Rattle.lp_dict.specs.Systems.{wholes};
 ghost use Rattle.norm_gauge.specs.Gauges.{IsGauge, WidthStopIs};
-ghost use Rattle.norm_gauge.specs.Widths.{HasBound, IsInhabited, first_rows, polytope_of};
+ghost use Rattle.spaces.specs.Tables.{rows_in};
+ghost use Rattle.norm_gauge.specs.Widths.{AreNarrow, HasBound, IsInhabited, first_rows, polytope_of};
 
 use crate::gauge::Gauge;
 use crate::pairs::{form_of_pairs, opposite, system_of_pairs};
@@ -58,7 +57,7 @@ fn width_of_pairs(
     requires within { i ≤ basis.now.rows }
     requires same_width { basis.now.width ≡ system.now.rows.width }
     requires few { ((system.now.rows.rows + system.now.rows.rows) + (i + i) + 1) * (system.now.rows.width + system.now.rows.width + 1) ≤ 2 ^ 31 }
-    requires narrow_basis { All IsNarrow basis.now.items }
+    requires narrow_basis { AreNarrow (rows_in basis.now) }
     requires bounded { HasBound (polytope_of system.now.rows system.now.limits) }
     requires inhabited { IsInhabited (polytope_of system.now.rows system.now.limits) }
     ensures gauge { IfOk result (IsGauge (polytope_of system.now.rows system.now.limits) (first_rows basis.now i) (wholes form.now)) }
@@ -100,7 +99,7 @@ pub fn width(
     requires within { i ≤ basis.now.rows }
     requires same_width { basis.now.width ≡ system.now.rows.width }
     requires few { ((system.now.rows.rows + system.now.rows.rows) + (i + i) + 1) * (system.now.rows.width + system.now.rows.width + 1) ≤ 2 ^ 31 }
-    requires narrow_basis { All IsNarrow basis.now.items }
+    requires narrow_basis { AreNarrow (rows_in basis.now) }
     requires bounded { HasBound (polytope_of system.now.rows system.now.limits) }
     requires inhabited { IsInhabited (polytope_of system.now.rows system.now.limits) }
     ensures gauge { IfOk result (IsGauge (polytope_of system.now.rows system.now.limits) (first_rows basis.now i) (wholes form.now)) }

@@ -1,7 +1,14 @@
 use Rattle.std.proofs.Common.{◌≡◌, ◌<◌, ◌++◌, pos, negsuc, ap, sym, ◌∙◌, arith, append_assoc}
 use Rattle.norm_gauge.specs.PairTables.{pair_row, difference_rows}
+use Rattle.norm_gauge.proofs.NarrowSteps.{row_narrow}
 use Rattle.norm_gauge.proofs.PairSteps.{mapped_more}
 use Rattle.norm_gauge.proofs.pairs.append_differences.Goals as goal
+
+pub append_row-requires-clause-narrow : goal.append_row-requires-clause-narrow
+append_row-requires-clause-narrow c = row_narrow c.args.basis.now c.loop-k.k c.row.result.now c.requires.narrow (omega (arith, c.requires.within, c.loop-k-test.true)) c.row.ensures.value
+
+pub append_row-requires-in-loop-k-clause-narrow : goal.append_row-requires-in-loop-k-clause-narrow
+append_row-requires-in-loop-k-clause-narrow c = row_narrow c.args.basis.now c.loop-k.k c.row-in-loop-k.result.now c.requires.narrow (omega (arith, c.requires.within, c.loop-k-test.true)) c.row-in-loop-k.ensures.value
 
 pub loop-k-preserved : goal.loop-k-preserved
 loop-k-preserved c =

@@ -1,7 +1,5 @@
-use Rattle.std.proofs.Common.{◌≡◌, ◌<◌, ◌≤◌, ◌++◌, take, rules, arith, SFits, to_z-of_z}
-use Rattle.std.specs.Prelude.{flat_map}
+use Rattle.std.proofs.Common.{◌<◌, ◌≤◌, rules, arith, SFits, to_z-of_z}
 use Rattle.std.specs.Int.{w128}
-use Rattle.spaces.specs.Tables.{rows_in}
 use Rattle.norm_gauge.specs.PairTables.{pair_row}
 use Rattle.norm_gauge.proofs.PairSteps.{mapped_more, mapped_all}
 use Rattle.norm_gauge.proofs.pairs.append_rows.Goals as goal

@@ -1,6 +1,5 @@
-use Rattle.std.proofs.Common.{◌≡◌, ◌+◌, ◌*◌, length, sym, ap, ap₂, ◌∙◌, arith}
+use Rattle.std.proofs.Common.{◌≡◌, ◌+◌, ◌*◌, length, sym, ap, ap₂, ◌∙◌}
 use Rattle.norm_gauge.specs.PairTableLaws.{pairs_size, pairs_polytope, first_rows-wide, left_sides-wide}
-use Rattle.norm_gauge.specs.Widths.{polytope_of}
 use Rattle.norm_gauge.proofs.pairs.system_of_pairs.Goals as goal
 
 pub copy_from_slice-requires : goal.copy_from_slice-requires

@@ -1,7 +1,5 @@
 use Rattle.std.proofs.Common.{ap, ◌∙◌}
 use Rattle.std.proofs.lemmas.Result.{err_from_is_err_and}
-use Rattle.exact_vectors.specs.Vectors.{negate}
-use Rattle.exact_math.specs.RationalRing.{rationals}
 use Rattle.lp_dict.specs.Systems.{wholes}
 use Rattle.norm_gauge.specs.PairTableLaws.{wholes-negated}
 use Rattle.norm_gauge.specs.Widths.{polytope_of}
