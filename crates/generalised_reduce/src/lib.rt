@@ -1,0 +1,2 @@
+//! Generalised basis reduction.
+#![tactic(auto)]
