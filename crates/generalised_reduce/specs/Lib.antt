@@ -1,2 +1,3 @@
 pub mod Reduced
 pub mod DifferenceLaws
+pub mod MultiplierLaws

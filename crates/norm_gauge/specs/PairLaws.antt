@@ -76,7 +76,7 @@ at_most_zero d e =
     (subst (λ t. t ≤ℚ none) (sym e) (Order.le_refl none), subst (λ t. neg_ℚ t ≤ℚ none) (sym e) (subst (λ t. t ≤ℚ none) (sym (Laws.neg_zero rationals)) (Order.le_refl none)))
 
 -- points that agree on the rows meet the inequalities on their differences ..
-agree_meets : (n : ℕ) (fixed : List (List ℚ)) (x y : List ℚ) → HasWidth n fixed → length x ≡ n → times_vector rationals fixed x ≡ times_vector rationals fixed y → AllZip ◌≤ℚ◌ (times_vector rationals (differences fixed) (x ++ y)) (no_differences fixed)
+pub agree_meets : (n : ℕ) (fixed : List (List ℚ)) (x y : List ℚ) → HasWidth n fixed → length x ≡ n → times_vector rationals fixed x ≡ times_vector rationals fixed y → AllZip ◌≤ℚ◌ (times_vector rationals (differences fixed) (x ++ y)) (no_differences fixed)
 agree_meets n [] x y w e a = tt
 agree_meets n (row ∷ fixed) x y w e a =
     let heads : dot rationals row x ≡ dot rationals row y = cc in
@@ -170,3 +170,31 @@ most_from_ends p form least greatest below above high low pair =
     let top : dot rationals form high ≤ℚ greatest =
     subst (λ t. t ≤ℚ greatest) (Laws.neg_neg rationals (dot rationals form high)) (subst (λ t. neg_ℚ (neg_ℚ (dot rationals form high)) ≤ℚ t) (Laws.neg_neg rationals greatest) (Order.neg_le (neg_ℚ greatest) (neg_ℚ (dot rationals form high)) turned)) in
     Order.add_le (dot rationals form high) greatest (neg_ℚ (dot rationals form low)) (neg_ℚ least) top (Order.neg_le least (dot rationals form low) (below low pair.second))
+
+-- ---- the rows have as many factors as the pairs have coordinates
+
+HasWidth-append : (n : ℕ) (a b : List (List ℚ)) → HasWidth n a → HasWidth n b → HasWidth n (a ++ b)
+HasWidth-append n [] b h k = k
+HasWidth-append n (row ∷ a) b h k = (h.0, HasWidth-append n a b h.1 k)
+
+first-wide : (n : ℕ) (rows : List (List ℚ)) → HasWidth n rows → HasWidth (n + n) (map (row_on_first n) rows)
+first-wide n [] w = tt
+first-wide n (row ∷ rows) w = (length-append row (zeros rationals n) ∙ ap₂ (λ a b. a + b) w.0 (Matrix.length-zeros rationals n), first-wide n rows w.1)
+
+second-wide : (n : ℕ) (rows : List (List ℚ)) → HasWidth n rows → HasWidth (n + n) (map (row_on_second n) rows)
+second-wide n [] w = tt
+second-wide n (row ∷ rows) w = (length-append (zeros rationals n) row ∙ ap₂ (λ a b. a + b) (Matrix.length-zeros rationals n) w.0, second-wide n rows w.1)
+
+differences-wide : (n : ℕ) (fixed : List (List ℚ)) → HasWidth n fixed → HasWidth (n + n) (differences fixed)
+differences-wide n [] w = tt
+differences-wide n (row ∷ fixed) w =
+    let other : length (negate rationals row) ≡ n = length-map row neg_ℚ ∙ w.0 in
+    (length-append row (negate rationals row) ∙ ap₂ (λ a b. a + b) w.0 other, (length-append (negate rationals row) row ∙ ap₂ (λ a b. a + b) other w.0, differences-wide n fixed w.1))
+
+pub pair_rows-wide : (n : ℕ) (rows fixed : List (List ℚ)) → HasWidth n rows → HasWidth n fixed → HasWidth (n + n) (pair_rows n rows fixed)
+pair_rows-wide n rows fixed w v =
+    HasWidth-append (n + n) (map (row_on_first n) rows) (map (row_on_second n) rows ++ differences fixed) (first-wide n rows w) (HasWidth-append (n + n) (map (row_on_second n) rows) (differences fixed) (second-wide n rows w) (differences-wide n fixed v))
+
+-- one more row
+pub HasWidth-more : (n : ℕ) (fixed : List (List ℚ)) (row : List ℚ) → HasWidth n fixed → length row ≡ n → HasWidth n (fixed ++ row ∷ [])
+HasWidth-more n fixed row w l = HasWidth-append n fixed (row ∷ []) w (l, tt)
