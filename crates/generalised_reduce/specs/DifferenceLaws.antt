@@ -31,7 +31,7 @@ difference-raised s t y y' k e =
 pub turned_pair : (p : Polytope) (fixed : List (List ℚ)) (y y' : List ℚ) → ArePair p fixed y y' → ArePair p fixed y' y
 turned_pair p fixed y y' pair = record { first = pair.second; second = pair.first; agree = sym pair.agree }
 
-difference-turned : (form y y' : List ℚ) → difference form y' y ≡ neg_ℚ (difference form y y')
+pub difference-turned : (form y y' : List ℚ) → difference form y' y ≡ neg_ℚ (difference form y y')
 difference-turned form y y' = ring rationals (dot rationals form y ∷ dot rationals form y' ∷ []) {x = difference form y' y} {y = neg_ℚ (difference form y y')} (search reads depth 30) (search reads depth 30) refl
 
 -- a difference is bounded on both sides

@@ -1,3 +1,5 @@
 pub mod Reduced
 pub mod DifferenceLaws
 pub mod MultiplierLaws
+pub mod Moves
+pub mod ReducedLaws
