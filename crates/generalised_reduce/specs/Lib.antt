@@ -3,3 +3,4 @@ pub mod DifferenceLaws
 pub mod MultiplierLaws
 pub mod Moves
 pub mod ReducedLaws
+pub mod BoundLaws

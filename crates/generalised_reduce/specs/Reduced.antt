@@ -1,9 +1,10 @@
 -- Bases of forms that are reduced for a polytope (Lovász and Scarf, The generalized basis reduction algorithm, Mathematics of Operations Research 17, 1992, with epsilon 1/4).
-use Rattle.std.specs.Prelude.{ℕ, suc, ◌<◌, ℤ, pos, List, [], length, get_or, take}
+use Rattle.std.specs.Prelude.{◌≡◌, ◌≢◌, ℕ, suc, ◌<◌, ℤ, pos, List, [], length, get_or, take}
 use Rattle.exact_math.specs.Rational.{ℚ, whole, ◌≤ℚ◌, ◌*ℚ◌}
 use Rattle.exact_math.specs.RationalRing.{rationals}
-use Rattle.exact_vectors.specs.Vectors.{add, scale}
-use Rattle.lp_dict.specs.Systems.{whole_rows}
+use Rattle.exact_math.specs.Ring.{integers}
+use Rattle.exact_vectors.specs.Vectors.{add, scale, zeros}
+use Rattle.lp_dict.specs.Systems.{wholes, whole_rows}
 use Rattle.unimodular_pair.specs.Pairs.{Matrices}
 use Rattle.norm_gauge.specs.Widths.{Polytope, IsAtMost, IsWidth}
 
@@ -32,3 +33,7 @@ pub record IsReducedAt (p : Polytope) (rows : List (List ℚ)) (i : ℕ) : Type 
 -- each two neighbours are
 abbrev pub IsLovaszScarfReduced : Polytope → List (List ℚ) → Type 0
 IsLovaszScarfReduced p rows = (i : ℕ) → suc i < length rows → IsReducedAt p rows i
+
+-- the form is at most `factor` times as wide as each whole form other than 0
+abbrev pub IsWithinFactor : Polytope → ℕ → List ℚ → Type 0
+IsWithinFactor p factor form = (other : List ℤ) (bound : ℚ) → length other ≡ p.coordinates → other ≢ zeros integers p.coordinates → IsAtMost p [] (wholes other) bound → IsAtMost p [] form (whole (pos factor) *ℚ bound)
