@@ -4,3 +4,4 @@ pub mod MultiplierLaws
 pub mod Moves
 pub mod ReducedLaws
 pub mod BoundLaws
+pub mod Halts

@@ -1,2 +1,8 @@
-//! Generalised basis reduction.
+//! Generalised basis reduction: a basis of the whole forms whose first form is thin on a polytope.
 #![tactic(auto)]
+
+mod answer;
+mod halt;
+mod numbers;
+
+pub use answer::{Gauges, ThinBasis, ThinExcuse, ThinStop};
