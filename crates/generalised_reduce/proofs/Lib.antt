@@ -1,1 +1,3 @@
 pub mod NumberSteps
+pub mod MultipleSteps
+pub mod TestSteps

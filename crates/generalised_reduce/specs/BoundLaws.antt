@@ -54,12 +54,12 @@ last_of (a ∷ c) = elim (last_of c) [
 
 -- ---- the values of a combination
 
-wholes-add : (v w : List ℤ) → wholes (add integers v w) ≡ add rationals (wholes v) (wholes w)
+pub wholes-add : (v w : List ℤ) → wholes (add integers v w) ≡ add rationals (wholes v) (wholes w)
 wholes-add [] w = refl
 wholes-add (a ∷ v) [] = refl
 wholes-add (a ∷ v) (b ∷ w) = ap₂ (λ (x : ℚ) (l : List ℚ). x ∷ l) (whole_add a b) (wholes-add v w)
 
-wholes-scale : (k : ℤ) (v : List ℤ) → wholes (scale integers k v) ≡ scale rationals (whole k) (wholes v)
+pub wholes-scale : (k : ℤ) (v : List ℤ) → wholes (scale integers k v) ≡ scale rationals (whole k) (wholes v)
 wholes-scale k [] = refl
 wholes-scale k (a ∷ v) = ap₂ (λ (x : ℚ) (l : List ℚ). x ∷ l) (whole_mul k a) (wholes-scale k v)
 

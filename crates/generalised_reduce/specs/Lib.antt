@@ -4,4 +4,5 @@ pub mod MultiplierLaws
 pub mod Moves
 pub mod ReducedLaws
 pub mod BoundLaws
+pub mod Ready
 pub mod Halts

@@ -3,6 +3,7 @@
 
 mod answer;
 mod halt;
+mod multiples;
 mod numbers;
 
 pub use answer::{Gauges, ThinBasis, ThinExcuse, ThinStop};
