@@ -1,6 +1,5 @@
 -- The gauges that the programs show, and their excuses.
 use Rattle.std.proofs.Common.{◌≡◌, ℕ, List, [], refl, sym, ap, subst, ◌∙◌, inl, inr}
-
 use Rattle.exact_math.specs.Rational.{ℚ, neg_ℚ, ◌-ℚ◌, ◌≤ℚ◌}
 use Rattle.exact_math.specs.RationalRing.{rationals}
 use Rattle.exact_math.specs.RingLaws as Laws
@@ -35,7 +34,7 @@ stops_above p form other NoMemory e h = tt
 -- ---- under no rows
 
 module _ (p : Polytope) (form other : List ℚ) (opposite : other ≡ negate rationals form) (low high below above : List ℚ) (least lowest greatest : ℚ) (turned : greatest ≡ neg_ℚ lowest)
-  (lower : IsLeastAt p form low least below) (upper : IsLeastAt p other high lowest above) where
+    (lower : IsLeastAt p form low least below) (upper : IsLeastAt p other high lowest above) where
   -- the number that is least with the other sign
   back : neg_ℚ greatest ≡ lowest
   back = ap neg_ℚ turned ∙ Laws.neg_neg rationals lowest

@@ -75,6 +75,7 @@ pairs_condition t basis limits form i condition few narrow = record {
   where
     together : (m d : ℕ) → m + (m + d) ≡ (m + m) + d
     together m d = omega arith
+
     differences_narrow : (row : List ℤ) → All IsNarrow row → All IsNarrow (difference_rows row)
     differences_narrow row h =
         All-append IsNarrow (pair_row (pos 1) (negsuc 0) row) (pair_row (negsuc 0) (pos 1) row) (pair_row_narrow (pos 1) (negsuc 0) row (omega arith) (omega arith) h) (pair_row_narrow (negsuc 0) (pos 1) row (omega arith) (omega arith) h)

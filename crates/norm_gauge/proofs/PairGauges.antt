@@ -7,7 +7,6 @@ use Rattle.exact_math.specs.RationalRing.{rationals}
 use Rattle.exact_math.specs.RingLaws as Laws
 use Rattle.exact_vectors.specs.Vectors.{dot}
 use Rattle.exact_vectors.specs.Matrices.{HasWidth}
-use Rattle.frac128.specs.Range.{IsNarrow}
 use Rattle.spaces.specs.Tables.{Table, rows_in}
 use Rattle.spaces.specs.TableLaws as Table
 use Rattle.lp_dict.specs.Systems.{wholes, left_sides}
@@ -38,9 +37,9 @@ module _ (p : Polytope) (fixed : List (List ℚ)) (w : HasWidth p.coordinates p.
   pairs_bounded bounded = record {
     bound = bounded.bound;
     within = λ z has.
-      let pair = pair_from_point p fixed z w v many has in
-      subst (All (λ a. (neg_ℚ bounded.bound ≤ℚ a) × (a ≤ℚ bounded.bound))) (take-append-drop p.coordinates z)
-      (All-append (λ a. (neg_ℚ bounded.bound ≤ℚ a) × (a ≤ℚ bounded.bound)) (take p.coordinates z) (drop p.coordinates z) (bounded.within (take p.coordinates z) pair.first) (bounded.within (drop p.coordinates z) pair.second));
+        let pair = pair_from_point p fixed z w v many has in
+        subst (All (λ a. (neg_ℚ bounded.bound ≤ℚ a) × (a ≤ℚ bounded.bound))) (take-append-drop p.coordinates z)
+        (All-append (λ a. (neg_ℚ bounded.bound ≤ℚ a) × (a ≤ℚ bounded.bound)) (take p.coordinates z) (drop p.coordinates z) (bounded.within (take p.coordinates z) pair.first) (bounded.within (drop p.coordinates z) pair.second));
   }
 
   -- a point makes a pair with itself
@@ -72,7 +71,7 @@ weights_of p (row ∷ fixed) form g some shown no_more = (shown, no_more)
 
 -- the program shows the gauge
 module _ (p q : Polytope) (fixed : List (List ℚ)) (form apart point weights : List ℚ) (value : ℚ) (w : HasWidth p.coordinates p.rows) (v : HasWidth p.coordinates fixed) (many : length p.limits ≡ length p.rows)
-  (long : length form ≡ p.coordinates) (some : 0 < length fixed) (same : q ≡ pair_system p fixed) (last : apart ≡ pair_form form) (shown : IsLeastAt q apart point value weights) where
+    (long : length form ≡ p.coordinates) (some : 0 < length fixed) (same : q ≡ pair_system p fixed) (last : apart ≡ pair_form form) (shown : IsLeastAt q apart point value weights) where
   shown_pair : IsLeastAt (pair_system p fixed) (pair_form form) point value weights
   shown_pair = subst (λ f. IsLeastAt (pair_system p fixed) f point value weights) last (subst (λ s. IsLeastAt s apart point value weights) same shown)
 

@@ -47,8 +47,7 @@ summed_more v w sum next j a x h k e f summed product range is =
 -- nothing is left
 pub summed_all : (v w : List ℚ) (sum : ℚ) (j : ℕ) → length v ≤ j → IsSummed v w sum j → SumStays none v w × (sum ≡ dot rationals v w)
 summed_all v w sum j h summed =
-    let gone : drop j v ≡ [] = drop_all j v h in
-    (
+    let gone : drop j v ≡ [] = drop_all j v h in (
       summed.same_range.1 (subst (λ l. SumStays sum l (drop j w)) (sym gone) tt),
       sym (rationals.add_zero sum) ∙ ap (λ d. sum +ℚ d) (sym (ap (λ l. dot rationals l (drop j w)) gone)) ∙ summed.total,
     )

@@ -96,6 +96,7 @@ zero_from_both a b h k =
   where
     back : (a b : ℚ) → (a -ℚ b) +ℚ b ≡ a
     back a b = ring rationals (a ∷ b ∷ []) (search reads depth 30) (search reads depth 30) refl
+
     forth : (a b : ℚ) → neg_ℚ (a -ℚ b) +ℚ a ≡ b
     forth a b = ring rationals (a ∷ b ∷ []) (search reads depth 30) (search reads depth 30) refl
 

@@ -201,7 +201,6 @@ module _ (t basis : Table ℤ) (i : ℕ) (size : length t.items ≡ t.rows * t.w
   pub first_rows-count : length (first_rows basis i) ≡ i
   first_rows-count = ap length (sym (take-whole_rows i (rows_in basis))) ∙ length-map (take i (rows_in basis)) wholes ∙ fixed_count
 
-
   -- the rows of the system have too
   pub left_sides-wide : HasWidth t.width (left_sides t)
   left_sides-wide = whole_wide t.width (rows_in t) wide

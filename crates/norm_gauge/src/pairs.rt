@@ -141,10 +141,7 @@ pub(crate) fn system_of_pairs(
 }
 
 /// The form of the pair system whose least value is minus the width.
-pub(crate) fn form_of_pairs(
-    alloc: Global,
-    form: &Form<Kernel>,
-) -> Result<Form<Kernel>, NoMemory>
+pub(crate) fn form_of_pairs(alloc: Global, form: &Form<Kernel>) -> Result<Form<Kernel>, NoMemory>
     requires { All IsNarrow form.now }
     ensures { IfOk result (λ pairs. pairs ≡ pair_row (negsuc 0) (pos 1) form.now) }
 {

@@ -22,7 +22,7 @@ loop-j-preserved c =
     let placed : c.loop-j.j < length (wholes form) = simp length-map (omega arith) in
     let item : c.index-point-j.result ≡ get_or point c.loop-j.j none = get_or_read point c.loop-j.j c.index-point-j.result there c.index-point-j.is none in
     summed_more (wholes form) point c.loop-j.sum c.in_ok-sum.sum c.loop-j.j c.whole.result c.index-point-j.result placed there (factor_is form c.loop-j.j _ c.whole.result c.loop-j-test.true refl factor) item c.loop-j.invariant c.in_ok-product.ensures.0
-        (subst (SumInRange c.loop-j.sum) c.in_ok-product.ensures.1 c.in_ok-sum.ensures.0) (c.in_ok-sum.ensures.1 ∙ ap (λ p. c.loop-j.sum +ℚ p) c.in_ok-product.ensures.1)
+    (subst (SumInRange c.loop-j.sum) c.in_ok-product.ensures.1 c.in_ok-sum.ensures.0) (c.in_ok-sum.ensures.1 ∙ ap (λ p. c.loop-j.sum +ℚ p) c.in_ok-product.ensures.1)
 
 pub returns-in_err-product : goal.returns-in_err-product
 returns-in_err-product c =
@@ -47,7 +47,7 @@ returns-in_err-sum c =
     let item : c.index-point-j.result ≡ get_or point c.loop-j.j none = get_or_read point c.loop-j.j c.index-point-j.result there c.index-point-j.is none in
     let p = err_from_is_err_and c.from_residual-in_err-sum.result c.from_residual-in_err-sum.ensures.1 in
     rw p.1 (refused (wholes form) point c.loop-j.sum c.loop-j.j c.whole.result c.index-point-j.result placed there (factor_is form c.loop-j.j _ c.whole.result c.loop-j-test.true refl factor) item c.loop-j.invariant
-        (λ both. c.in_err-sum.ensures (subst (SumInRange c.loop-j.sum) (sym c.in_ok-product.ensures.1) both.1)))
+    (λ both. c.in_err-sum.ensures (subst (SumInRange c.loop-j.sum) (sym c.in_ok-product.ensures.1) both.1)))
 
 pub returns : goal.returns
 returns c =

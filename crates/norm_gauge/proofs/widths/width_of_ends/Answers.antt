@@ -25,11 +25,11 @@ returns-in-Ok-clause-gauge c =
     let lower = c.in_ok-lower.lower in
     let upper = c.in_ok-upper.upper in
     gauge_of_ends (polytope_of c.args.system.now.rows c.args.system.now.limits) (wholes c.args.form.now) (wholes c.in_ok-other.other) (ap wholes c.in_ok-other.ensures ∙ wholes-negated c.args.form.now) lower.point upper.point lower.multipliers upper.multipliers
-        lower.value upper.value c.neg-greatest.result c.neg-greatest.ensures c.in_ok-lower.ensures.shown c.in_ok-upper.ensures.shown c.in-Ok.value c.in-Ok.ensures.1 c.in_ok-lower.ensures.least c.in_ok-upper.ensures.least
+    lower.value upper.value c.neg-greatest.result c.neg-greatest.ensures c.in_ok-lower.ensures.shown c.in_ok-upper.ensures.shown c.in-Ok.value c.in-Ok.ensures.1 c.in_ok-lower.ensures.least c.in_ok-upper.ensures.least
 
 pub returns-in-Err-clause-stopped : goal.returns-in-Err-clause-stopped
 returns-in-Err-clause-stopped c =
     let lower = c.in_ok-lower.lower in
     let upper = c.in_ok-upper.upper in
     wide_ends (polytope_of c.args.system.now.rows c.args.system.now.limits) (wholes c.args.form.now) (wholes c.in_ok-other.other) (ap wholes c.in_ok-other.ensures ∙ wholes-negated c.args.form.now) lower.point upper.point lower.multipliers upper.multipliers
-        lower.value upper.value c.neg-greatest.result c.neg-greatest.ensures c.in_ok-lower.ensures.shown c.in_ok-upper.ensures.shown lower.pivots upper.pivots c.in_ok-lower.ensures.ended c.in_ok-upper.ensures.ended c.in-Err.ensures
+    lower.value upper.value c.neg-greatest.result c.neg-greatest.ensures c.in_ok-lower.ensures.shown c.in_ok-upper.ensures.shown lower.pivots upper.pivots c.in_ok-lower.ensures.ended c.in_ok-upper.ensures.ended c.in-Err.ensures

@@ -68,7 +68,7 @@ returns-in-Ok-clause-gauge c =
     let front : c.split_at.result.0.now ≡ take t.width furthest.point = c.split_at.ensures.front ∙ ap₂ take (ap length c.items-2.ensures ∙ c.requires.condition.as_many_factors) c.items.ensures in
     let back : c.split_at.result.1.now ≡ drop t.width furthest.point = c.split_at.ensures.back ∙ ap₂ drop (ap length c.items-2.ensures ∙ c.requires.condition.as_many_factors) c.items.ensures in
     gauge_of_pairs p (polytope_of pairs.rows pairs.limits) fixed (wholes c.args.form.now) (wholes c.in_ok-apart.apart) furthest.point furthest.multipliers furthest.value c.in_ok-pairs.ensures.wide_rows c.in_ok-pairs.ensures.wide_basis many long some same last c.in_ok-furthest.ensures.shown
-        _ c.neg.ensures (c.in-Ok.ensures.first ∙ ap₂ (λ f z. dot rationals (wholes f) z) c.items-3.ensures back) (c.in-Ok.ensures.second ∙ ap₂ (λ f z. dot rationals (wholes f) z) c.items-3.ensures front) (c.in_ok-point_of-in-Ok.ensures ∙ back) (c.in_ok-point_of-in-Ok-2.ensures ∙ front) refl c.new.ensures c.in_ok-furthest.ensures.least
+    _ c.neg.ensures (c.in-Ok.ensures.first ∙ ap₂ (λ f z. dot rationals (wholes f) z) c.items-3.ensures back) (c.in-Ok.ensures.second ∙ ap₂ (λ f z. dot rationals (wholes f) z) c.items-3.ensures front) (c.in_ok-point_of-in-Ok.ensures ∙ back) (c.in_ok-point_of-in-Ok-2.ensures ∙ front) refl c.new.ensures c.in_ok-furthest.ensures.least
 
 pub returns-clause-stopped : goal.returns-clause-stopped
 returns-clause-stopped c =
@@ -86,5 +86,5 @@ returns-clause-stopped c =
     let front : c.split_at.result.0.now ≡ take t.width furthest.point = c.split_at.ensures.front ∙ ap₂ take (ap length c.items-2.ensures ∙ c.requires.condition.as_many_factors) c.items.ensures in
     let back : c.split_at.result.1.now ≡ drop t.width furthest.point = c.split_at.ensures.back ∙ ap₂ drop (ap length c.items-2.ensures ∙ c.requires.condition.as_many_factors) c.items.ensures in
     wide_of_pairs p (polytope_of pairs.rows pairs.limits) fixed (wholes c.args.form.now) (wholes c.in_ok-apart.apart) furthest.point furthest.multipliers furthest.value furthest.pivots c.new-in-Err.result some same last c.in_ok-furthest.ensures.ended c.new-in-Err.ensures
-        (subst (λ f. (¬ (SumStays none (wholes f) (take t.width furthest.point))) ⊎ (¬ (SumStays none (wholes f) (drop t.width furthest.point)))) c.items-3.ensures
-            (subst (λ z. (¬ (SumStays none (wholes c.items-3.result.now) z)) ⊎ (¬ (SumStays none (wholes c.items-3.result.now) (drop t.width furthest.point)))) front (subst (λ z. (¬ (SumStays none (wholes c.items-3.result.now) c.split_at.result.0.now)) ⊎ (¬ (SumStays none (wholes c.items-3.result.now) z))) back c.in-Err.ensures.wide)))
+    (subst (λ f. (¬ (SumStays none (wholes f) (take t.width furthest.point))) ⊎ (¬ (SumStays none (wholes f) (drop t.width furthest.point)))) c.items-3.ensures
+    (subst (λ z. (¬ (SumStays none (wholes c.items-3.result.now) z)) ⊎ (¬ (SumStays none (wholes c.items-3.result.now) (drop t.width furthest.point)))) front (subst (λ z. (¬ (SumStays none (wholes c.items-3.result.now) c.split_at.result.0.now)) ⊎ (¬ (SumStays none (wholes c.items-3.result.now) z))) back c.in-Err.ensures.wide)))

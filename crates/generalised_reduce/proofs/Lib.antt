@@ -1,3 +1,0 @@
-pub mod NumberSteps
-pub mod MultipleSteps
-pub mod TestSteps
