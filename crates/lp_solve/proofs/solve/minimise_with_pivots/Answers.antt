@@ -6,7 +6,8 @@ use Rattle.lp_solve.specs.Outcomes.{SolvedIs}
 use Rattle.lp_solve.specs.Rule.{AreLegal, NextIsWide, IsDue, after}
 use Rattle.lp_solve.specs.declared.solve.Ending.TheVariants.{Stuck, Optimal, Wide, Many}
 use Rattle.lp_solve.proofs.SolveSteps.{reached_from, basic_count, outside_count, row_width, small_ok, solved_empty, solved_least, says_empty}
-use Rattle.lp_solve.proofs.solve.minimise.Goals as goal
+use Rattle.lp_solve.proofs.EndedLaws.{ends_empty, ends_least}
+use Rattle.lp_solve.proofs.solve.minimise_with_pivots.Goals as goal
 
 pub of-requires : goal.of-requires
 of-requires c = c.requires.condition
@@ -29,23 +30,23 @@ returns-in_err-row-clause-empty c = IfOk-from_err c.from_residual-in_err-row.res
 pub returns-in_err-row-clause-stopped : goal.returns-in_err-row-clause-stopped
 returns-in_err-row-clause-stopped c = let p = err_from_is_err_and c.from_residual-in_err-row.result c.from_residual-in_err-row.ensures.1 in rw (p.1, p.2) tt
 
-pub returns-in_err-empty-in-Stuck-clause-solved : goal.returns-in_err-empty-in-Stuck-clause-solved
-returns-in_err-empty-in-Stuck-clause-solved c = IfOk-from_err c.from_residual-in_err-empty-in-Stuck.result _ c.from_residual-in_err-empty-in-Stuck.ensures.0
+pub returns-in_err-solved-in-Stuck-clause-solved : goal.returns-in_err-solved-in-Stuck-clause-solved
+returns-in_err-solved-in-Stuck-clause-solved c = IfOk-from_err c.from_residual-in_err-solved-in-Stuck.result _ c.from_residual-in_err-solved-in-Stuck.ensures.0
 
-pub returns-in_err-empty-in-Stuck-clause-empty : goal.returns-in_err-empty-in-Stuck-clause-empty
-returns-in_err-empty-in-Stuck-clause-empty c = IfOk-from_err c.from_residual-in_err-empty-in-Stuck.result _ c.from_residual-in_err-empty-in-Stuck.ensures.0
+pub returns-in_err-solved-in-Stuck-clause-empty : goal.returns-in_err-solved-in-Stuck-clause-empty
+returns-in_err-solved-in-Stuck-clause-empty c = IfOk-from_err c.from_residual-in_err-solved-in-Stuck.result _ c.from_residual-in_err-solved-in-Stuck.ensures.0
 
-pub returns-in_err-empty-in-Stuck-clause-stopped : goal.returns-in_err-empty-in-Stuck-clause-stopped
-returns-in_err-empty-in-Stuck-clause-stopped c = let p = err_from_is_err_and c.from_residual-in_err-empty-in-Stuck.result c.from_residual-in_err-empty-in-Stuck.ensures.1 in rw (p.1, p.2) tt
+pub returns-in_err-solved-in-Stuck-clause-stopped : goal.returns-in_err-solved-in-Stuck-clause-stopped
+returns-in_err-solved-in-Stuck-clause-stopped c = let p = err_from_is_err_and c.from_residual-in_err-solved-in-Stuck.result c.from_residual-in_err-solved-in-Stuck.ensures.1 in rw (p.1, p.2) tt
 
-pub returns-in_err-least-in-Optimal-clause-solved : goal.returns-in_err-least-in-Optimal-clause-solved
-returns-in_err-least-in-Optimal-clause-solved c = IfOk-from_err c.from_residual-in_err-least-in-Optimal.result _ c.from_residual-in_err-least-in-Optimal.ensures.0
+pub returns-in_err-solved-in-Optimal-clause-solved : goal.returns-in_err-solved-in-Optimal-clause-solved
+returns-in_err-solved-in-Optimal-clause-solved c = IfOk-from_err c.from_residual-in_err-solved-in-Optimal.result _ c.from_residual-in_err-solved-in-Optimal.ensures.0
 
-pub returns-in_err-least-in-Optimal-clause-empty : goal.returns-in_err-least-in-Optimal-clause-empty
-returns-in_err-least-in-Optimal-clause-empty c = IfOk-from_err c.from_residual-in_err-least-in-Optimal.result _ c.from_residual-in_err-least-in-Optimal.ensures.0
+pub returns-in_err-solved-in-Optimal-clause-empty : goal.returns-in_err-solved-in-Optimal-clause-empty
+returns-in_err-solved-in-Optimal-clause-empty c = IfOk-from_err c.from_residual-in_err-solved-in-Optimal.result _ c.from_residual-in_err-solved-in-Optimal.ensures.0
 
-pub returns-in_err-least-in-Optimal-clause-stopped : goal.returns-in_err-least-in-Optimal-clause-stopped
-returns-in_err-least-in-Optimal-clause-stopped c = let p = err_from_is_err_and c.from_residual-in_err-least-in-Optimal.result c.from_residual-in_err-least-in-Optimal.ensures.1 in rw (p.1, p.2) tt
+pub returns-in_err-solved-in-Optimal-clause-stopped : goal.returns-in_err-solved-in-Optimal-clause-stopped
+returns-in_err-solved-in-Optimal-clause-stopped c = let p = err_from_is_err_and c.from_residual-in_err-solved-in-Optimal.result c.from_residual-in_err-solved-in-Optimal.ensures.1 in rw (p.1, p.2) tt
 
 pub run-requires-clause-rows : goal.run-requires-clause-rows
 run-requires-clause-rows c =
@@ -120,7 +121,7 @@ returns-in-Stuck-clause-solved c =
     let form = c.args.form.now in
     let end : EndingIs c.in_ok-dict.dict c.run.new.dict c.run.new.pivots (Stuck c.in-Stuck.row) = subst (EndingIs c.in_ok-dict.dict c.run.new.dict c.run.new.pivots) c.in-Stuck.is c.in_ok-row.ensures.ending in
     let now = reached_from t limits form c.requires.condition c.rows-rows.ensures.size c.in_ok-dict.dict c.run.new.dict c.run.new.pivots c.in_ok-dict.ensures c.in_ok-row.ensures.legal end.0 in
-    subst (SolvedIs (left_sides t) (wholes limits) (wholes form)) (sym c.in_ok-empty-in-Stuck.ensures) (solved_empty t limits form c.requires.condition c.rows-rows.ensures.size c.run.new.dict now c.in-Stuck.row end.1)
+    subst (SolvedIs (left_sides t) (wholes limits) (wholes form)) (sym c.in_ok-solved-in-Stuck.ensures) (solved_empty t limits form c.requires.condition c.rows-rows.ensures.size c.run.new.dict now c.in-Stuck.row end.1)
 
 pub returns-in-Stuck-clause-empty : goal.returns-in-Stuck-clause-empty
 returns-in-Stuck-clause-empty c =
@@ -129,7 +130,7 @@ returns-in-Stuck-clause-empty c =
     let form = c.args.form.now in
     let end : EndingIs c.in_ok-dict.dict c.run.new.dict c.run.new.pivots (Stuck c.in-Stuck.row) = subst (EndingIs c.in_ok-dict.dict c.run.new.dict c.run.new.pivots) c.in-Stuck.is c.in_ok-row.ensures.ending in
     let now = reached_from t limits form c.requires.condition c.rows-rows.ensures.size c.in_ok-dict.dict c.run.new.dict c.run.new.pivots c.in_ok-dict.ensures c.in_ok-row.ensures.legal end.0 in
-    says_empty t limits form c.requires.condition c.rows-rows.ensures.size c.in_ok-empty-in-Stuck.field-0 (subst (SolvedIs (left_sides t) (wholes limits) (wholes form)) (sym c.in_ok-empty-in-Stuck.ensures) (solved_empty t limits form c.requires.condition c.rows-rows.ensures.size c.run.new.dict now c.in-Stuck.row end.1))
+    says_empty t limits form c.requires.condition c.rows-rows.ensures.size c.in_ok-solved-in-Stuck.solved (subst (SolvedIs (left_sides t) (wholes limits) (wholes form)) (sym c.in_ok-solved-in-Stuck.ensures) (solved_empty t limits form c.requires.condition c.rows-rows.ensures.size c.run.new.dict now c.in-Stuck.row end.1))
 
 pub least-requires-clause-rows : goal.least-requires-clause-rows
 least-requires-clause-rows c =
@@ -181,7 +182,7 @@ returns-in-Optimal-clause-solved c =
     let form = c.args.form.now in
     let end : EndingIs c.in_ok-dict.dict c.run.new.dict c.run.new.pivots (Optimal) = subst (EndingIs c.in_ok-dict.dict c.run.new.dict c.run.new.pivots) c.in-Optimal.is c.in_ok-row.ensures.ending in
     let now = reached_from t limits form c.requires.condition c.rows-rows.ensures.size c.in_ok-dict.dict c.run.new.dict c.run.new.pivots c.in_ok-dict.ensures c.in_ok-row.ensures.legal end.0 in
-    subst (SolvedIs (left_sides t) (wholes limits) (wholes form)) (sym c.in_ok-least-in-Optimal.ensures) (solved_least t limits form c.requires.condition c.rows-rows.ensures.size c.run.new.dict now c.requires.bounded end.1)
+    subst (SolvedIs (left_sides t) (wholes limits) (wholes form)) (sym c.in_ok-solved-in-Optimal.ensures) (solved_least t limits form c.requires.condition c.rows-rows.ensures.size c.run.new.dict now c.requires.bounded end.1)
 
 pub returns-in-Optimal-clause-empty : goal.returns-in-Optimal-clause-empty
 returns-in-Optimal-clause-empty c =
@@ -190,7 +191,7 @@ returns-in-Optimal-clause-empty c =
     let form = c.args.form.now in
     let end : EndingIs c.in_ok-dict.dict c.run.new.dict c.run.new.pivots (Optimal) = subst (EndingIs c.in_ok-dict.dict c.run.new.dict c.run.new.pivots) c.in-Optimal.is c.in_ok-row.ensures.ending in
     let now = reached_from t limits form c.requires.condition c.rows-rows.ensures.size c.in_ok-dict.dict c.run.new.dict c.run.new.pivots c.in_ok-dict.ensures c.in_ok-row.ensures.legal end.0 in
-    says_empty t limits form c.requires.condition c.rows-rows.ensures.size c.in_ok-least-in-Optimal.field-0 (subst (SolvedIs (left_sides t) (wholes limits) (wholes form)) (sym c.in_ok-least-in-Optimal.ensures) (solved_least t limits form c.requires.condition c.rows-rows.ensures.size c.run.new.dict now c.requires.bounded end.1))
+    says_empty t limits form c.requires.condition c.rows-rows.ensures.size c.in_ok-solved-in-Optimal.solved (subst (SolvedIs (left_sides t) (wholes limits) (wholes form)) (sym c.in_ok-solved-in-Optimal.ensures) (solved_least t limits form c.requires.condition c.rows-rows.ensures.size c.run.new.dict now c.requires.bounded end.1))
 
 pub same-pivots : goal.same-pivots
 same-pivots c = refl
@@ -213,3 +214,25 @@ returns-clause-stopped c =
     let form = c.args.form.now in
     let end : EndingIs c.in_ok-dict.dict c.run.new.dict c.run.new.pivots (Many) = subst (EndingIs c.in_ok-dict.dict c.run.new.dict c.run.new.pivots) c.in-Many.is c.in_ok-row.ensures.ending in
     (subst (λ d. AreLegal d c.run.new.pivots) c.in_ok-dict.ensures c.in_ok-row.ensures.legal, end.0, subst (λ d. IsDue (after d c.run.new.pivots)) c.in_ok-dict.ensures end.1)
+
+pub returns-in_err-dict-clause-pivots : goal.returns-in_err-dict-clause-pivots
+returns-in_err-dict-clause-pivots c = IfOk-from_err c.from_residual.result _ c.from_residual.ensures.0
+
+pub returns-in_err-row-clause-pivots : goal.returns-in_err-row-clause-pivots
+returns-in_err-row-clause-pivots c = IfOk-from_err c.from_residual-in_err-row.result _ c.from_residual-in_err-row.ensures.0
+
+pub returns-in_err-solved-in-Stuck-clause-pivots : goal.returns-in_err-solved-in-Stuck-clause-pivots
+returns-in_err-solved-in-Stuck-clause-pivots c = IfOk-from_err c.from_residual-in_err-solved-in-Stuck.result _ c.from_residual-in_err-solved-in-Stuck.ensures.0
+
+pub returns-in_err-solved-in-Optimal-clause-pivots : goal.returns-in_err-solved-in-Optimal-clause-pivots
+returns-in_err-solved-in-Optimal-clause-pivots c = IfOk-from_err c.from_residual-in_err-solved-in-Optimal.result _ c.from_residual-in_err-solved-in-Optimal.ensures.0
+
+pub returns-in-Stuck-clause-pivots : goal.returns-in-Stuck-clause-pivots
+returns-in-Stuck-clause-pivots c =
+    let end : EndingIs c.in_ok-dict.dict c.run.new.dict c.run.new.pivots (Stuck c.in-Stuck.row) = subst (EndingIs c.in_ok-dict.dict c.run.new.dict c.run.new.pivots) c.in-Stuck.is c.in_ok-row.ensures.ending in
+    ends_empty _ c.in_ok-dict.dict c.run.new.dict c.run.new.pivots c.in-Stuck.row c.in_ok-solved-in-Stuck.solved c.in_ok-dict.ensures c.in_ok-row.ensures.legal end.0 end.1 c.in_ok-solved-in-Stuck.ensures
+
+pub returns-in-Optimal-clause-pivots : goal.returns-in-Optimal-clause-pivots
+returns-in-Optimal-clause-pivots c =
+    let end : EndingIs c.in_ok-dict.dict c.run.new.dict c.run.new.pivots (Optimal) = subst (EndingIs c.in_ok-dict.dict c.run.new.dict c.run.new.pivots) c.in-Optimal.is c.in_ok-row.ensures.ending in
+    ends_least _ c.in_ok-dict.dict c.run.new.dict c.run.new.pivots c.in_ok-solved-in-Optimal.solved c.in_ok-dict.ensures c.in_ok-row.ensures.legal end.0 end.1 c.in_ok-solved-in-Optimal.ensures
