@@ -62,12 +62,7 @@ fn push_pair(text: &mut Vec<u8>, name: &[u8], number: i128) -> Result<(), NoMemo
 }
 
 // Puts the line of a field, a name and a number at the end.
-fn push_entry(
-    text: &mut Vec<u8>,
-    first: &[u8],
-    name: &[u8],
-    number: i128,
-) -> Result<(), NoMemory>
+fn push_entry(text: &mut Vec<u8>, first: &[u8], name: &[u8], number: i128) -> Result<(), NoMemory>
     ensures { OnOk result (text.new.items ≡ text.old.items ++ (data_line (first.now ∷ name.now ∷ signed_decimal number ∷ []) ++ 10 ∷ [])) }
 {
     push_field(text, first)?;
@@ -113,7 +108,7 @@ fn push_factor(
     name: &[u8],
     items: &[Item],
 ) -> Result<bool, NoMemory>
-    ensures text { IfOk result (λ _. text.new.items ≡ text.old.items ++ in_lines (map data_line (map (labelled column.now) (option_to_list (factor_pair number (record { name = name.now; items = items.now }))))) }
+    ensures text { IfOk result (λ _. text.new.items ≡ text.old.items ++ in_lines (map data_line (map (labelled column.now) (option_to_list (factor_pair number (record { name = name.now; items = items.now })))))) }
     ensures found { IfOk result (λ found. found ≡ is_some (factor_in number items.now)) }
 {
     match factor_of(number, items) {
