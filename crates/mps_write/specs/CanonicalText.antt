@@ -1,6 +1,6 @@
 -- The canonical text of a plain model in free MPS (the successors of IBM's MPSX): one text for each model. Each data line
 -- has one pair, without a set name, and each field stands behind one blank.
-use Rattle.std.specs.Prelude.{◌==◌, ℕ, suc, if◌then◌else◌, List, [], ◌∷◌, ◌++◌, map, flat_map, filter_map, find, ℤ, pos, ◌-ℤ◌, neg_ℤ, Option, Some, None, option_map, option_to_list, codes}
+use Rattle.std.specs.Prelude.{◌==◌, ◌+◌, ℕ, if◌then◌else◌, List, [], ◌∷◌, ◌++◌, map, flat_map, filter_map, find, ℤ, pos, ◌-ℤ◌, neg_ℤ, Option, Some, None, option_map, option_to_list, codes}
 use Rattle.std.specs.Ordering.{int_eq}
 use Rattle.std.specs.Fmt.{signed_decimal}
 use Rattle.exact_math.specs.Rational.{ℚ}
@@ -117,7 +117,7 @@ labelled column pair = column ∷ pair.name ∷ pair.number ∷ []
 
 abbrev pub column_table : List NamedItems → ℕ → List Column → List Fields
 column_table named j [] = []
-column_table named j (column ∷ columns) = map (labelled column.name) (column_pairs named j) ++ column_table named (suc j) columns
+column_table named j (column ∷ columns) = map (labelled column.name) (column_pairs named j) ++ column_table named (j + 1) columns
 
 -- a number other than 0 under its name
 abbrev pub some_pair : List ℕ → ℤ → Option Pair

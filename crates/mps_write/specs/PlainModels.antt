@@ -31,7 +31,7 @@ pub record IsPlainItem (item : Item) : Type 0 where
 -- terms in rising order of the n columns
 pub record ArePlainItems (n : ℕ) (items : List Item) : Type 0 where
   pub distinct : IsDistinctBelow n items
-  pub items : All IsPlainItem items
+  pub terms : All IsPlainItem items
 
 -- at least one side, and two sides do not cross
 abbrev pub ArePlainSides : Option ℚ → Option ℚ → Type 0

@@ -1,15 +1,15 @@
 //! Plain models, their canonical text in free form, and market split models.
 #![tactic(auto)]
 
-mod market;
+mod market_split;
 mod plain;
 mod sides;
-mod write;
+mod writer;
 
-pub use market::market;
+pub use market_split::market;
 pub use plain::is_plain;
 pub use sequence::NoMemory;
-pub use write::{Text, write};
+pub use writer::{Text, write};
 
 #[cfg(test)]
 mod tests;
