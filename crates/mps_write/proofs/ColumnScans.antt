@@ -22,8 +22,8 @@ use Rattle.mps_model.specs.PairFaults.{pairs_fault, pair_fault, pair_names}
 use Rattle.mps_model.specs.LineFaults.{data_fault}
 use Rattle.mps_model.specs.ColumnFaults.{goes_on, is_known_column, marker_fault, column_fault}
 use Rattle.int_model.specs.declared.model.Column.{Column}
-use Rattle.mps_model.proofs.OnLists.NameListLaws.{last_of-push}
-use Rattle.mps_model.proofs.OnTables.ColumnLineLaws.{column_names_fresh, column_names_known, lines_of_column-entries, lines_of_column_none}
+use Rattle.mps_model.specs.NameListLaws.{last_of-push}
+use Rattle.mps_model.specs.ColumnLineLaws.{column_names_fresh, column_names_known, lines_of_column-entries, lines_of_column_none}
 use Rattle.mps_write.specs.CanonicalText.{NamedItems, objective_name, pair_of, factor_pair, or_zero, data_line, labelled, column_pairs, column_table}
 use Rattle.mps_write.proofs.LineTexts.{is_field, free_texts-data_line}
 use Rattle.mps_write.proofs.NameLaws.{bytes_same, bytes_differ, AreFresh, each_at, fresh_at}

@@ -1,8 +1,10 @@
 -- Items whose columns rise are those that their factors give, column by column.
-use Rattle.std.proofs.Common.{◌≡◌, ◌≢◌, ℕ, zero, suc, ◌+◌, ◌<◌, ◌≤◌, Bool, true, false, cond, eqb, List, [], ◌∷◌, length, get_or, map, filter_map, Option, Some, None, refl, sym, ap, subst, ◌∙◌, arith}
+use Rattle.std.proofs.Common.{◌≡◌, ◌≢◌, ◌↔◌, ℕ, zero, suc, ◌+◌, ◌<◌, ◌≤◌, Bool, true, false, cond, eqb, List, [], ◌∷◌, length, get_or, drop, drop-cons, map, filter_map, Option, Some, None, refl, sym, ap, subst, ◌∙◌, arith}
 use Rattle.std.specs.Prelude.{◌==◌, find, option_map, All, AllPairs}
 use Rattle.std.specs.List.{range_with_len, cons_option, AllByRecursion}
 use Rattle.std.proofs.lemmas.Bool.{ne_eqb, eq-eqb, cases_eq}
+use Rattle.std.proofs.lemmas.List.Elements.{All-nil, All-cons}
+use Rattle.std.proofs.lemmas.List.Kept.{AllPairs-cons}
 use Rattle.std.proofs.Common.{⊎_elim}
 use Rattle.exact_math.specs.Rational.{ℚ}
 use Rattle.int_model.specs.declared.model.Item.{Item}
@@ -19,7 +21,7 @@ abbrev pub Rise : ℕ → ℕ → List Item → Type 0
 Rise j end [] = Unit {0}
 Rise j end (item ∷ items) = (j ≤ item.column) × (item.column < end) × Rise ((item.column + 1)) end items
 
-rise_later : (j k end : ℕ) (items : List Item) → Rise j end items → k ≤ j → Rise k end items
+pub rise_later : (j k end : ℕ) (items : List Item) → Rise j end items → k ≤ j → Rise k end items
 rise_later j k end [] rise le = tt
 rise_later j k end (item ∷ items) rise le = (omega (arith, rise.0), rise.1, rise.2)
 
@@ -92,3 +94,32 @@ rebuilt j (suc k) (item ∷ items) rise =
 -- items whose columns rise below n are found column by column
 pub items_rebuilt : (n : ℕ) (items : List Item) → IsDistinctBelow n items → filter_map (λ j. option_map (item_of j) (factor_in j items)) (range_with_len 0 n) ≡ items
 items_rebuilt n items distinct = rebuilt 0 n items (subst (λ e. Rise 0 e items) (omega arith) (distinct_rise n items distinct))
+
+-- ---- items that rise, from a number of columns
+
+rise_low : (j end : ℕ) (items : List Item) → Rise j end items → All (λ (item : Item). j ≤ item.column) items
+rise_low j end [] rise = All-nil (λ (item : Item). j ≤ item.column)
+rise_low j end (item ∷ items) rise =
+    All-cons (λ (item : Item). j ≤ item.column) item items rise.0
+    (λ k d h. omega (arith, rise.0, rise_low (item.column + 1) end items rise.2 k d h))
+
+rise_high : (j end : ℕ) (items : List Item) → Rise j end items → All (λ (item : Item). item.column < end) items
+rise_high j end [] rise = All-nil (λ (item : Item). item.column < end)
+rise_high j end (item ∷ items) rise = All-cons (λ (item : Item). item.column < end) item items rise.1 (rise_high (item.column + 1) end items rise.2)
+
+rise_pairs : (j end : ℕ) (items : List Item) → Rise j end items → AllPairs (λ (a b : Item). a.column < b.column) items
+rise_pairs j end [] rise = λ a b d lt within. absurd (omega (arith, within))
+rise_pairs j end (item ∷ items) rise =
+    AllPairs-cons (λ (a b : Item). a.column < b.column) item items
+    (λ k d h. omega (arith, rise_low (item.column + 1) end items rise.2 k d h))
+    (rise_pairs (item.column + 1) end items rise.2)
+
+-- items are distinct below n exactly where they rise
+pub distinct_is_rise : (n : ℕ) (items : List Item) → IsDistinctBelow n items ↔ Rise 0 n items
+distinct_is_rise n items = (distinct_rise n items, λ rise. record { in_range = rise_high 0 n items rise; rising = rise_pairs 0 n items rise })
+
+-- the next of items that rise
+pub rise_next : (least end i : ℕ) (items : List Item) (item : Item) → i < length items → item ≡ get_or items i item → Rise least end (drop i items) → (least ≤ item.column) × (item.column < end)
+rise_next least end i items item within is rise =
+    let next = subst (Rise least end) (drop-cons items i item within) rise in
+    subst (λ (x : Item). (least ≤ x.column) × (x.column < end)) (sym is) (next.0, next.1)

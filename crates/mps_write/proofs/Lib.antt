@@ -18,3 +18,5 @@ pub mod ReadBack
 pub mod TextScans
 pub mod LineFits
 pub mod MeaningBack
+pub mod CodeLaws
+pub mod MarketLaws

@@ -10,8 +10,8 @@ use Rattle.mps_model.specs.Sections.{text_lines}
 use Rattle.mps_model.specs.Tables.{tables_of}
 use Rattle.mps_model.specs.StatedModel.{stated}
 use Rattle.mps_model.specs.Meaning.{first_column_fault, unless_fault, meaning}
-use Rattle.mps_model.proofs.OnLines.SectionLaws.{begins_found}
-use Rattle.mps_model.proofs.OnTexts.TextScanLaws.{IsScanned, end_found}
+use Rattle.mps_model.specs.SectionLaws.{begins_found}
+use Rattle.mps_model.specs.TextScanLaws.{IsScanned, end_found}
 use Rattle.mps_write.specs.PlainModels.{IsPlain}
 use Rattle.mps_write.specs.CanonicalText.{Fields, data_line, section, section_of_some, row_fields, row_table, items_of_row, all_items, column_table, some_pair, side_pair, side_pairs, range_pair, range_pairs, unlabelled, bound_table, canonical_lines, canonical_text}
 use Rattle.mps_write.proofs.LineTexts.{lines_of-in_lines}

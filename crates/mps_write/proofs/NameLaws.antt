@@ -77,10 +77,13 @@ push_taken taken (other ∷ names) name apart differ = (
 pub fresh_from : {X : Type 0} (name_of : X → List ℕ) (taken : List (List ℕ)) (xs : List X) → AllByRecursion (λ x. is_among taken (name_of x) ≡ false) xs
     → AllPairs (λ (a b : X). name_of a ≢ name_of b) xs → AreFresh taken (map name_of xs)
 fresh_from {X = X} name_of taken [] apart differ = tt
-fresh_from {X = X} name_of taken (x ∷ xs) apart differ = (apart.0, fresh_from name_of (taken ++ name_of x ∷ []) xs
-  (unmapped xs (push_taken taken (map name_of xs) (name_of x) (each-map (λ name. is_among taken name ≡ false) name_of xs apart.1)
-  (each-map (λ other. name_of x ≢ other) name_of xs (each (λ y. name_of x ≢ name_of y) xs (λ k d h. differ 0 (suc k) d (omega arith) (omega arith))))))
-  (λ i j d lt within. differ (suc i) (suc j) d (omega arith) (omega arith)))
+fresh_from {X = X} name_of taken (x ∷ xs) apart differ = (
+  apart.0,
+  fresh_from name_of (taken ++ name_of x ∷ []) xs
+      (unmapped xs (push_taken taken (map name_of xs) (name_of x) (each-map (λ name. is_among taken name ≡ false) name_of xs apart.1)
+      (each-map (λ other. name_of x ≢ other) name_of xs (each (λ y. name_of x ≢ name_of y) xs (λ k d h. differ 0 (suc k) d (omega arith) (omega arith))))))
+      (λ i j d lt within. differ (suc i) (suc j) d (omega arith) (omega arith)),
+)
   where
     unmapped : (ys : List X) → AllByRecursion (λ other. is_among (taken ++ name_of x ∷ []) other ≡ false) (map name_of ys)
         → AllByRecursion (λ y. is_among (taken ++ name_of x ∷ []) (name_of y) ≡ false) ys

@@ -60,6 +60,9 @@ more_digits n word large h = record {
 decimal_is : (n : ℕ) → n < 10 ^ 64 → AreDigitsOf n (decimal n)
 decimal_is = decimal_by_steps_wide AreDigitsOf one_digit more_digits
 
+pub decimal_digits : (n : ℕ) → n < 10 ^ 64 → is_digits (decimal n) ≡ true
+decimal_digits n small = (decimal_is n small).digits
+
 -- ---- numbers that are read
 
 -- digits behind a sign

@@ -22,7 +22,7 @@ use Rattle.mps_model.specs.Sides.{Sides, side_in, number_beside, pairs_of, sided
 use Rattle.mps_model.specs.Bounds.{column_names}
 use Rattle.mps_model.specs.StatedModel.{items_of, objective_items, stated_row, stated_column, stated}
 use Rattle.mps_model.specs.Meaning.{first_column_fault, unless_fault, meaning}
-use Rattle.mps_model.proofs.OnTexts.TextScanLaws.{IsScanned, end_found}
+use Rattle.mps_model.specs.TextScanLaws.{IsScanned, end_found}
 use Rattle.mps_write.specs.PlainModels.{ArePlainItems, ArePlainSides, IsPlainRow, IsPlain}
 use Rattle.mps_write.specs.CanonicalText.{Fields, data_line, in_lines, section, section_of_some, objective_name, row_fields, row_table, row_right_side, row_range, NamedItems, items_of_row, all_items, factor_pair, column_table, side_pairs, range_pairs, unlabelled, bound_table, canonical_lines, canonical_text}
 use Rattle.mps_write.proofs.LineTexts.{is_text_byte, lines_of-in_lines}

@@ -16,10 +16,10 @@ use Rattle.mps_model.specs.AddedLines.{with_line}
 use Rattle.mps_model.specs.FaultRules.{first_holding}
 use Rattle.mps_model.specs.LineFaults.{is_allowed_byte, has_more_fields, section_fault, data_fault, line_fault}
 use Rattle.mps_model.specs.Meaning.{first_line_fault}
-use Rattle.mps_model.proofs.OnLines.SectionLaws.{sections_still, sections_more, section_is_content}
-use Rattle.mps_model.proofs.OnLines.LineFaultLaws.{data_line as data_rule, section_line as section_rule, not_there}
-use Rattle.mps_model.proofs.OnTables.TableLaws.{HasOpenLast, open_none, open_data, open_section, tables_section, tables_line}
-use Rattle.mps_model.proofs.OnTexts.TextScanLaws.{first_of_none, faultless_more}
+use Rattle.mps_model.specs.SectionLaws.{sections_still, sections_more, section_is_content}
+use Rattle.mps_model.specs.LineFaultLaws.{data_line as data_rule, section_line as section_rule, not_there}
+use Rattle.mps_model.specs.TableLaws.{HasOpenLast, open_none, open_data, open_section, tables_section, tables_line}
+use Rattle.mps_model.specs.TextScanLaws.{first_of_none, faultless_more}
 use Rattle.mps_write.specs.CanonicalText.{Fields, data_line}
 use Rattle.mps_write.proofs.LineTexts.{is_text_byte, is_field, free_texts-data_line, data_line-text, data_line-blank}
 

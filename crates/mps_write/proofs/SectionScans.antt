@@ -8,7 +8,7 @@ use Rattle.mps_model.specs.declared.lines.section.Section.{Section}
 use Rattle.mps_model.specs.declared.lines.section.Section.TheVariants.{Name as NAME, Rows as ROWS, Columns as COLUMNS, Rhs as RHS, Ranges as RANGES, Bounds as BOUNDS, Endata as ENDATA}
 use Rattle.mps_model.specs.Sections.{begins, section_at}
 use Rattle.mps_model.specs.SectionOrder.{is_same, is_in_order}
-use Rattle.mps_model.proofs.OnLines.SectionLaws.{begins_at}
+use Rattle.mps_model.specs.SectionLaws.{begins_at}
 use Rattle.mps_model.specs.LineFaults.{has_more_fields}
 use Rattle.mps_model.specs.Tables.{Tables}
 use Rattle.mps_write.specs.CanonicalText.{Fields, data_line, section}

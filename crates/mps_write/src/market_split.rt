@@ -1,8 +1,7 @@
 //! Market split models.
-ghost use Rattle.std.specs.Prelude.{◌≡◌, ◌+◌, ◌*◌, ◌%◌, ◌<◌, ◌≤◌, ◌∷◌, ℕ, IfOk, pos, decimal};
-ghost use Rattle.exact_math.specs.Rational.{whole};
+ghost use Rattle.std.specs.Prelude.{◌≡◌, ◌+◌, ◌*◌, ◌%◌, ◌<◌, ◌≤◌, ◌++◌, ℕ, IfOk, OnOk, option_to_list};
 ghost use Rattle.mps_write.specs.PlainModels.{IsPlain};
-ghost use Rattle.mps_write.specs.Markets.{next_number, stream_at, market_row as row_of, market_column as column_of, numbered_name as name_of, market_model};
+ghost use Rattle.mps_write.specs.Markets.{next_number, stream_at, market_item, market_row as row_of, market_column as column_of, numbered_name as name_of, market_model};
 
 use frac128::Frac;
 use int_model::{Column, Columns, Item, Items, Model, Name, Row, Rows};
@@ -57,26 +56,35 @@ fn market_column(alloc: Global, place: u32) -> Result<Column, NoMemory>
     })
 }
 
+// Puts the term of a column at the end, where its factor is not 0.
+fn push_item(items: &mut Items, column: u32, factor: u64) -> Result<(), NoMemory>
+    requires { factor < 100 }
+    ensures { OnOk result (items.new ≡ items.old ++ option_to_list (market_item factor column)) }
+{
+    if factor != 0 {
+        items.push(Item {
+            column,
+            factor: Frac::whole(i128::from(factor)),
+        })?;
+    }
+    Ok(())
+}
+
+// The row at a place, from 0, with the stream before its first factor.
 fn market_row(alloc: Global, stream: &mut Stream, columns: u32, place: u32) -> Result<Row, NoMemory>
-    ghost start: { ℕ }
     requires few { columns ≤ 100 }
     requires place { place < 10 }
-    requires stream { stream.old.number ≡ stream_at start (place * columns) }
-    requires start { start < 2147483647 }
-    ensures row { IfOk result (λ row. row ≡ row_of start columns place) }
-    ensures stream { IfOk result (λ _. stream.new.number ≡ stream_at start ((place + 1) * columns)) }
+    requires stream { stream.old.number < 2147483647 }
+    ensures row { (start : ℕ) → stream.old.number ≡ stream_at start (place * columns) → IfOk result (λ row. row ≡ row_of start columns place) }
+    ensures stream { (start : ℕ) → stream.old.number ≡ stream_at start (place * columns) → IfOk result (λ _. stream.new.number ≡ stream_at start ((place + 1) * columns)) }
+    ensures below { stream.new.number < 2147483647 }
 {
     let mut items = Items::new(alloc);
     let mut sum = 0;
     for column in 0..columns {
         let factor = stream.next_factor();
+        push_item(&mut items, column, factor)?;
         sum += factor;
-        if factor != 0 {
-            items.push(Item {
-                column,
-                factor: Frac::whole(i128::from(factor)),
-            })?;
-        }
     }
     let half = Frac::whole(i128::from(sum / 2));
     Ok(Row {

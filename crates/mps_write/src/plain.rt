@@ -1,5 +1,6 @@
 //! Whether a model is plain.
-ghost use Rattle.std.specs.Prelude.{◌≢◌, ◌↔◌, ℕ, ◌<◌, ◌≤◌, ◌^◌, IsTrue, All, AllPairs, length, nat_abs};
+ghost use Rattle.std.specs.Prelude.{◌≢◌, ◌↔◌, ℕ, ◌<◌, ◌≤◌, ◌^◌, IsTrue, All, AllPairs, length, nat_abs, bytes_eq, ◌≡◌};
+ghost use Rattle.std.specs.List.{list_any};
 ghost use Rattle.int_model.specs.declared.model.Column.{Column as TheColumn};
 ghost use Rattle.int_model.specs.declared.model.Row.{Row as TheRow};
 ghost use Rattle.int_model.specs.declared.model.Item.{Item as TheItem};
@@ -25,14 +26,25 @@ pub fn is_plain(model: &Model) -> bool
 {
     let columns = model.columns.items();
     let rows = model.rows.items();
+    has_plain_parts(columns, rows)
+        && has_own_names(columns, rows)
+        && are_plain_items(columns.len(), model.objective.items())
+        && is_plain_number(&model.constant)
+}
+
+fn has_plain_parts(columns: &[Column], rows: &[Row]) -> bool
+    ensures { IsTrue result ↔ ((length columns.now ≤ 256) × (length rows.now ≤ 256) × All IsPlainColumn columns.now × All (IsPlainRow (length columns.now)) rows.now) }
+{
     columns.len() <= MOST_PARTS
         && rows.len() <= MOST_PARTS
         && columns.iter().all(|column| is_plain_column(column))
         && are_plain_rows(columns.len(), rows)
-        && do_column_names_differ(columns)
-        && do_row_names_differ(rows)
-        && are_plain_items(columns.len(), model.objective.items())
-        && is_plain_number(&model.constant)
+}
+
+fn has_own_names(columns: &[Column], rows: &[Row]) -> bool
+    ensures { IsTrue result ↔ (AllPairs (λ (a b : TheColumn). a.name ≢ b.name) columns.now × AllPairs (λ (a b : TheRow). a.name ≢ b.name) rows.now) }
+{
+    do_column_names_differ(columns) && do_row_names_differ(rows)
 }
 
 fn is_plain_number(number: &Frac) -> bool
@@ -82,6 +94,7 @@ fn are_plain_items(columns: usize, items: &[Item]) -> bool
     do_items_rise(columns, items) && items.iter().all(|item| is_plain_item(item))
 }
 
+#[tactic(auto, using(exact_math::specs::RationalTests::rational_tests))]
 fn are_plain_sides(low: &Option<Frac>, high: &Option<Frac>) -> bool
     ensures { IsTrue result ↔ ArePlainSides low.now high.now }
 {
@@ -111,7 +124,7 @@ fn are_plain_rows(columns: usize, rows: &[Row]) -> bool
 }
 
 fn has_column_name(columns: &[Column], name: &[u8]) -> bool
-    ensures { IsTrue result ↔ ¬ All (λ (column : TheColumn). column.name ≢ name.now) columns.now }
+    ensures { result ≡ list_any (λ (column : TheColumn). bytes_eq column.name name.now) columns.now }
 {
     columns.iter().any(|column| column.name.items() == name)
 }
@@ -128,7 +141,7 @@ fn do_column_names_differ(columns: &[Column]) -> bool
 }
 
 fn has_row_name(rows: &[Row], name: &[u8]) -> bool
-    ensures { IsTrue result ↔ ¬ All (λ (row : TheRow). row.name ≢ name.now) rows.now }
+    ensures { result ≡ list_any (λ (row : TheRow). bytes_eq row.name name.now) rows.now }
 {
     rows.iter().any(|row| row.name.items() == name)
 }

@@ -1,12 +1,13 @@
 //! The canonical text of a plain model.
-ghost use Rattle.std.specs.Prelude.{◌≡◌, ◌∷◌, [], ◌++◌, ◌↔◌, ◌≢◌, ◌^◌, ◌≤◌, ℕ, suc, List, map, flat_map, filter_map, option_to_list, option_map, length, nat_abs, All, OnOk, IfOk, IsTrue, is_some, None, codes};
+ghost use Rattle.std.specs.Prelude.{◌≡◌, ◌∷◌, [], ◌++◌, ◌↔◌, ◌≢◌, ◌^◌, ◌≤◌, ℕ, suc, List, map, flat_map, filter_map, option_to_list, option_map, length, nat_abs, neg_ℤ, All, OnOk, IfOk, Ok, IsTrue, is_some, None, codes};
+ghost use Rattle.std.specs.List.{list_any};
 ghost use Rattle.std.specs.Fmt.{signed_decimal};
 ghost use Rattle.int_model.specs.declared.model.Row.{Row as TheRow};
 ghost use Rattle.mps_fields.specs.Lines.{most_bytes};
 ghost use Rattle.mps_model.specs.declared.layout.Layout.TheVariants.{Free};
-ghost use Rattle.mps_model.specs.Meaning.{Means};
+ghost use Rattle.mps_model.specs.Meaning.{meaning};
 ghost use Rattle.mps_write.specs.PlainModels.{ArePlainSides, IsPlain};
-ghost use Rattle.mps_write.specs.CanonicalText.{data_line, in_lines, section, section_of_some, row_fields, row_table, pair_of, factor_in, factor_pair, items_of_row, all_items, or_zero, labelled, column_table, some_pair, side_pairs, range_pair, range_pairs, unlabelled, bound_fields, bound_table, canonical_text};
+ghost use Rattle.mps_write.specs.CanonicalText.{data_line, in_lines, section, section_of_some, row_fields, row_table, pair_of, factor_in, factor_pair, items_of_row, all_items, or_zero, labelled, column_table, objective_name, some_pair, side_pair, side_pairs, row_range, range_pair, range_pairs, unlabelled, bound_fields, bound_table, canonical_text};
 
 use crate::sides::WholeSides;
 use frac128::Frac;
@@ -19,10 +20,20 @@ use std::alloc::Global;
 pub type Text = Sequence<u8>;
 
 /// The canonical text of a plain model. Read in free form, without an upper bound for columns that have none, it means
-/// the model again.
+/// the model again; it is no longer than a text that is read may be.
 pub fn write(alloc: Global, model: &Model) -> Result<Text, NoMemory>
     requires { IsPlain model.now }
     ensures text { IfOk result (λ text. text ≡ canonical_text model.now) }
+    ensures means { IfOk result (λ text. meaning Free None text ≡ Ok model.now) }
+    ensures size { IfOk result (λ text. length text ≤ most_bytes) }
+{
+    print(alloc, model)
+}
+
+// The text of the sections, one after another.
+fn print(alloc: Global, model: &Model) -> Result<Text, NoMemory>
+    requires { IsPlain model.now }
+    ensures { IfOk result (λ text. text ≡ canonical_text model.now) }
 {
     let mut text = Vec::from_slice(alloc, b"NAME SLICER\n")?;
     push_rows(&mut text, model.rows.items())?;
@@ -154,16 +165,24 @@ fn push_column(
     Ok(())
 }
 
+// Puts the lines of the columns at the end.
+fn push_column_lines(text: &mut Vec<u8>, columns: &[Column], model: &Model) -> Result<(), NoMemory>
+    requires { length columns.now ≤ 256 }
+    ensures { OnOk result (text.new.items ≡ text.old.items ++ in_lines (map data_line (column_table (all_items model.now) 0 columns.now))) }
+{
+    for (number, column) in columns.iter().enumerate() {
+        push_column(text, number as u32, column.name.items(), model)?;
+    }
+    Ok(())
+}
+
 // Puts COLUMNS at the end.
 fn push_columns(text: &mut Vec<u8>, model: &Model) -> Result<(), NoMemory>
     requires { length model.now.columns ≤ 256 }
     ensures { OnOk result (text.new.items ≡ text.old.items ++ in_lines (section (codes "COLUMNS") (column_table (all_items model.now) 0 model.now.columns))) }
 {
     text.extend_from_slice(b"COLUMNS\n")?;
-    for (number, column) in model.columns.items().iter().enumerate() {
-        push_column(text, number as u32, column.name.items(), model)?;
-    }
-    Ok(())
+    push_column_lines(text, model.columns.items(), model)
 }
 
 // Puts the line of a name and its number in RHS at the end, where the number is not 0.
@@ -176,17 +195,39 @@ fn push_side(text: &mut Vec<u8>, name: &[u8], side: i128) -> Result<(), NoMemory
     push_pair(text, name, side)
 }
 
+// Puts the line of the constant in RHS at the end, where it is not 0.
+fn push_constant(text: &mut Vec<u8>, constant: &Frac) -> Result<(), NoMemory>
+    requires { nat_abs constant.now.num ≤ 2 ^ 96 }
+    ensures { OnOk result (text.new.items ≡ text.old.items ++ in_lines (map data_line (map unlabelled (option_to_list (some_pair objective_name (neg_ℤ constant.now.num)))))) }
+{
+    push_side(text, b"COST", -constant.num())
+}
+
+// Puts the line of a row in RHS at the end, where its number is not 0.
+fn push_row_side(text: &mut Vec<u8>, row: &Row) -> Result<(), NoMemory>
+    ensures { OnOk result (text.new.items ≡ text.old.items ++ in_lines (map data_line (map unlabelled (option_to_list (side_pair row.now))))) }
+{
+    push_side(text, row.name.items(), WholeSides::of(row).right_side())
+}
+
+// Puts the lines of the rows in RHS at the end.
+fn push_row_sides(text: &mut Vec<u8>, rows: &[Row]) -> Result<(), NoMemory>
+    ensures { OnOk result (text.new.items ≡ text.old.items ++ in_lines (map data_line (map unlabelled (filter_map side_pair rows.now)))) }
+{
+    for row in rows {
+        push_row_side(text, row)?;
+    }
+    Ok(())
+}
+
 // Puts RHS at the end.
 fn push_sides(text: &mut Vec<u8>, model: &Model) -> Result<(), NoMemory>
     requires { nat_abs model.now.constant.num ≤ 2 ^ 96 }
     ensures { OnOk result (text.new.items ≡ text.old.items ++ in_lines (section (codes "RHS") (map unlabelled (side_pairs model.now)))) }
 {
     text.extend_from_slice(b"RHS\n")?;
-    push_side(text, b"COST", -model.constant.num())?;
-    for row in model.rows.items() {
-        push_side(text, row.name.items(), WholeSides::of(row).right_side())?;
-    }
-    Ok(())
+    push_constant(text, &model.constant)?;
+    push_row_sides(text, model.rows.items())
 }
 
 // Puts the line of a row in RANGES at the end, where it has one.
@@ -200,12 +241,19 @@ fn push_range(text: &mut Vec<u8>, row: &Row) -> Result<(), NoMemory>
     }
 }
 
+// Whether a row has a range.
+fn has_ranges(rows: &[Row]) -> bool
+    ensures { result ≡ list_any (λ (row : TheRow). is_some (row_range row)) rows.now }
+{
+    rows.iter().any(|row| WholeSides::of(row).has_range())
+}
+
 // Puts RANGES at the end, where a row has a range.
 fn push_ranges(text: &mut Vec<u8>, rows: &[Row]) -> Result<(), NoMemory>
     requires { All (λ (row : TheRow). ArePlainSides row.lo row.hi) rows.now }
     ensures { OnOk result (text.new.items ≡ text.old.items ++ in_lines (section_of_some (codes "RANGES") (map unlabelled (range_pairs rows.now)))) }
 {
-    if !rows.iter().any(|row| WholeSides::of(row).has_range()) {
+    if !has_ranges(rows) {
         return Ok(());
     }
     text.extend_from_slice(b"RANGES\n")?;
