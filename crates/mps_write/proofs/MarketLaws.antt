@@ -17,7 +17,7 @@ use Rattle.mps_fields.specs.ReadingLaws.{is_digits-all}
 use Rattle.int_model.specs.declared.model.Item.{Item}
 use Rattle.int_model.specs.declared.model.Column.{Column}
 use Rattle.int_model.specs.declared.model.Row.{Row}
-use Rattle.int_model.specs.IntegerRows.{IsDistinctBelow}
+use Rattle.int_model.specs.declared.model.Model.{Model}
 use Rattle.mps_write.specs.PlainModels.{IsPlainNumber, IsNameByte, IsPlainName, IsPlainItem, ArePlainItems, IsPlainColumn, IsPlainRow, IsPlain}
 use Rattle.mps_write.specs.Markets.{next_number, stream_at, market_factor, market_factors, market_item, numbered_name, market_row, market_column, market_model}
 use Rattle.mps_write.proofs.ItemLaws.{Rise, rise_later, distinct_is_rise}
@@ -132,9 +132,16 @@ items_plain f j (suc k) small =
     (All-cons IsPlainItem (record { column = j; factor = whole (pos (f j)) }) (filter_map (λ column. market_item (f column) column) (range_with_len (j + 1) k))
     (plain_item (f j) j (small j) (above_zero (f j) some)) (items_plain f (j + 1) k small)))
 
-sum_small : (f : ℕ → ℕ) (j k : ℕ) → ((i : ℕ) → f i < 100) → sum (map f (range_with_len j k)) ≤ 99 * k
-sum_small f j zero small = omega arith
-sum_small f j (suc k) small = omega (arith, small j, sum_small f (j + 1) k small)
+sum_small : (f : ℕ → ℕ) (k : ℕ) → ((i : ℕ) → f i < 100) → sum (map f (range_with_len 0 k)) ≤ 99 * k
+sum_small f zero small = omega arith
+sum_small f (suc k) small =
+    omega (
+      arith,
+      ap (λ n. sum (map f (range_with_len 0 n))) (add-one k),
+      sum_more f k (sum (map f (range_with_len 0 k))) refl,
+      small k,
+      sum_small f k small,
+    )
 
 -- ---- markets
 
@@ -148,7 +155,7 @@ module _ (rows columns start : ℕ) (few_rows : rows ≤ 10) (few_columns : colu
   plain_row : (row : ℕ) → row < 10 → IsPlainRow columns (market_row start columns row)
   plain_row row small =
       let half : ℕ = sum (market_factors start columns row) / 2 in
-      let number : IsPlainNumber (whole (pos half)) = small_number half (omega (arith, few_columns, sum_small (market_factor start columns row) 0 columns (factor_small row))) in
+      let number : IsPlainNumber (whole (pos half)) = small_number half (omega (arith, few_columns, sum_small (market_factor start columns row) columns (factor_small row))) in
       record {
         name = plain_name 82 row (omega arith) (omega arith) (omega arith);
         no_objective = other_letter 82 row 67 (codes "OST") (omega arith);
@@ -176,3 +183,9 @@ module _ (rows columns start : ℕ) (few_rows : rows ≤ 10) (few_columns : colu
         objective = record { distinct = (distinct_is_rise count []).1 tt; terms = All-nil IsPlainItem };
         constant = small_number 0 (omega arith);
       }
+
+-- ---- a model of equal parts
+
+pub same_parts : {columns others : List Column} {rows more : List Row} {objective terms : List Item} {constant number : ℚ} → columns ≡ others → rows ≡ more → objective ≡ terms → constant ≡ number
+    → ◌≡◌ {A = Model} (record { columns = columns; rows = rows; objective = objective; constant = constant }) (record { columns = others; rows = more; objective = terms; constant = number })
+same_parts p q r s = cc
