@@ -1,5 +1,5 @@
 -- The lines of BOUNDS in a canonical text have no fault, and state the bounds.
-use Rattle.std.proofs.Common.{◌≡◌, ℕ, ◌+◌, ◌≤◌, Bool, true, false, cond, not, ◌&&◌, List, [], ◌∷◌, ◌++◌, length, map, Option, Some, None, Ok, refl, sym, ap, subst, ◌∙◌, length-append, arith}
+use Rattle.std.proofs.Common.{◌≡◌, ℕ, Bool, true, false, cond, not, ◌&&◌, List, [], ◌∷◌, ◌++◌, map, Some, None, Ok, refl, sym, ap, subst, ◌∙◌}
 use Rattle.std.specs.Prelude.{option_to_list, option_map, option_and_then, slice_get, flat_map}
 use Rattle.std.specs.Fmt.{signed_decimal}
 use Rattle.std.specs.List.{last_or, AllByRecursion}
@@ -21,7 +21,7 @@ use Rattle.mps_model.specs.PairFaults.{is_second_set}
 use Rattle.mps_model.specs.ColumnFaults.{bound_line_fault, bound_fault}
 use Rattle.int_model.specs.declared.model.Column.{Column}
 use Rattle.mps_write.specs.CanonicalText.{Fields, data_line, bound_fields, bound_table}
-use Rattle.mps_write.proofs.LineTexts.{is_field, free_texts-data_line}
+use Rattle.mps_write.proofs.LineTexts.{free_texts-data_line}
 use Rattle.mps_write.proofs.NameLaws.{each_at}
 use Rattle.mps_write.proofs.Scans.{IsPassed, AreFields, line_of, passed_data, kept_along, tables_from}
 

@@ -1,6 +1,6 @@
 -- The bounds of a canonical text make the columns of its model again.
-use Rattle.std.proofs.Common.{◌≡◌, ℕ, ◌+◌, ◌^◌, ◌<◌, ℤ, pos, Bool, true, false, true≢false, cond, not, ◌||◌, ◌&&◌, List, [], ◌∷◌, ◌++◌, map, filter, filter_map, Option, Some, None, refl, sym, ap, subst, ◌∙◌, append_assoc, arith}
-use Rattle.std.specs.Prelude.{bytes_eq, flat_map, slice_get, option_map, unwrap_or, is_none}
+use Rattle.std.proofs.Common.{◌≡◌, ℕ, Bool, true, false, true≢false, cond, not, ◌||◌, ◌&&◌, List, [], ◌∷◌, ◌++◌, map, filter, filter_map, Option, Some, None, refl, sym, ap, subst, ◌∙◌, append_assoc}
+use Rattle.std.specs.Prelude.{bytes_eq, slice_get, option_map, unwrap_or, is_none}
 use Rattle.std.specs.Option.{option_or, option_map_or}
 use Rattle.std.specs.Fmt.{signed_decimal}
 use Rattle.std.specs.List.{list_any, cons_option, AllByRecursion}
@@ -22,7 +22,7 @@ use Rattle.mps_model.specs.FaultRules.{first_holding, is_among}
 use Rattle.mps_model.specs.Meaning.{fault_on, is_empty, first_line_of, column_fault_at, first_column_fault}
 use Rattle.mps_write.specs.PlainModels.{IsPlainColumn}
 use Rattle.mps_write.proofs.NameLaws.{bytes_same, bytes_differ, AreFresh, taken_apart, each_weaker, map_agrees}
-use Rattle.mps_write.proofs.BoundScans.{ColumnBound, two_bounds, all_bounds, bound_line}
+use Rattle.mps_write.proofs.BoundScans.{two_bounds, all_bounds, bound_line}
 use Rattle.mps_write.proofs.PlainFacts.{plain_read, both_each}
 
 abbrev pub name_of : Column → List ℕ

@@ -1,8 +1,8 @@
 -- The lines of COLUMNS in a canonical text have no fault, and state the factors.
-use Rattle.std.proofs.Common.{◌≡◌, ℕ, ◌+◌, ◌<◌, ◌≤◌, Bool, true, false, cond, not, ◌&&◌, ◌||◌, leb, List, [], ◌∷◌, ◌++◌, length, map, filter_map, pos, Option, Some, None, refl, sym, ap, subst, ◌∙◌, append_assoc, append-nil, length-append, arith}
-use Rattle.std.specs.Prelude.{bytes_eq, codes, option_to_list, option_map, flat_map, slice_get}
+use Rattle.std.proofs.Common.{◌≡◌, ℕ, ◌+◌, ◌<◌, ◌≤◌, Bool, true, false, cond, not, ◌&&◌, leb, List, [], ◌∷◌, ◌++◌, length, map, filter_map, pos, Some, None, refl, sym, ap, subst, ◌∙◌, append_assoc, append-nil, length-append, arith}
+use Rattle.std.specs.Prelude.{bytes_eq, codes, option_to_list, option_map, slice_get}
 use Rattle.std.specs.Option.{option_or, option_map_or}
-use Rattle.std.specs.List.{list_any, last_or, AllByRecursion}
+use Rattle.std.specs.List.{last_or, AllByRecursion}
 use Rattle.std.proofs.lemmas.Bool.{lt-leb, or_left, or_right, or_parts}
 use Rattle.std.proofs.lemmas.List.{map-append, length-map}
 use Rattle.std.proofs.lemmas.List.Concat.{flat_map-append}
@@ -20,13 +20,13 @@ use Rattle.mps_model.specs.FaultRules.{first_holding, is_among}
 use Rattle.mps_model.specs.RowFaults.{row_names}
 use Rattle.mps_model.specs.PairFaults.{pairs_fault, pair_fault, pair_names}
 use Rattle.mps_model.specs.LineFaults.{data_fault}
-use Rattle.mps_model.specs.ColumnFaults.{goes_on, is_known_column, marker_fault, column_fault}
+use Rattle.mps_model.specs.ColumnFaults.{marker_fault, column_fault}
 use Rattle.int_model.specs.declared.model.Column.{Column}
 use Rattle.mps_model.specs.NameListLaws.{last_of-push}
 use Rattle.mps_model.specs.ColumnLineLaws.{column_names_fresh, column_names_known, lines_of_column-entries, lines_of_column_none}
 use Rattle.mps_write.specs.CanonicalText.{NamedItems, objective_name, pair_of, factor_pair, or_zero, data_line, labelled, column_pairs, column_table}
 use Rattle.mps_write.proofs.LineTexts.{is_field, free_texts-data_line}
-use Rattle.mps_write.proofs.NameLaws.{bytes_same, bytes_differ, AreFresh, each_at, fresh_at}
+use Rattle.mps_write.proofs.NameLaws.{bytes_same, AreFresh, each_at, fresh_at}
 use Rattle.mps_write.proofs.Scans.{IsPassed, AreFields, line_of, passed_data, kept_along, numbered-append, tables_from}
 use Rattle.mps_write.proofs.PairScans.{IsGoodPair, pair_clear}
 

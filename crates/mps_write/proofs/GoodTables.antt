@@ -1,14 +1,13 @@
 -- The lines that a plain model makes can stand in a text: their fields, their numbers and their names.
-use Rattle.std.proofs.Common.{◌≡◌, ◌≢◌, ℕ, ◌+◌, ◌*◌, ◌^◌, ◌<◌, ◌≤◌, ℤ, pos, Bool, true, false, cond, not, ◌||◌, List, [], ◌∷◌, ◌++◌, length, map, filter_map, Option, Some, None, IfSome, Ok, refl, sym, ap, subst, ◌∙◌, length-append, arith}
-use Rattle.std.specs.Prelude.{bytes_eq, codes, option_map, find, nat_abs, neg_ℤ, flat_map}
+use Rattle.std.proofs.Common.{◌≡◌, ◌≢◌, ℕ, ◌^◌, ◌<◌, ◌≤◌, ℤ, pos, true, false, cond, not, List, [], ◌∷◌, ◌++◌, length, map, filter_map, Option, Some, None, IfSome, refl, sym, ap, subst, ◌∙◌, length-append, arith}
+use Rattle.std.specs.Prelude.{bytes_eq, codes, option_map, nat_abs, neg_ℤ, flat_map}
 use Rattle.std.specs.Ordering.{int_eq}
 use Rattle.std.specs.Fmt.{signed_decimal}
 use Rattle.std.specs.Option.{option_map_or}
-use Rattle.std.specs.List.{list_any, cons_option, AllByRecursion}
+use Rattle.std.specs.List.{AllByRecursion}
 use Rattle.std.proofs.lemmas.Bool.{or_from, or_right}
 use Rattle.std.proofs.lemmas.Int.{ints}
 use Rattle.exact_math.specs.Rational.{ℚ, whole}
-use Rattle.mps_fields.specs.BooleanLaws.{either}
 use Rattle.int_model.specs.declared.model.Column.{Column}
 use Rattle.int_model.specs.declared.model.Row.{Row}
 use Rattle.int_model.specs.declared.model.Model.{Model}
@@ -17,10 +16,9 @@ use Rattle.mps_model.specs.declared.lines.bound_kind.BoundKind.{BoundKind}
 use Rattle.mps_model.specs.declared.lines.bound_kind.BoundKind.TheVariants.{Li as LI, Ui as UI}
 use Rattle.mps_model.specs.Sides.{is_free_row, number_at, side_in, range_step, sum_fits}
 use Rattle.mps_model.specs.FaultRules.{is_among}
-use Rattle.mps_model.specs.RowFaults.{row_names}
 use Rattle.mps_model.specs.PairFaults.{row_named, has_wide_side}
-use Rattle.mps_write.specs.PlainModels.{IsPlainNumber, ArePlainItems, ArePlainSides, IsPlainColumn, IsPlainRow, IsPlain}
-use Rattle.mps_write.specs.CanonicalText.{Fields, data_line, objective_name, whole_side, right_side, range_of, row_kind, kind_of, row_right_side, row_range, row_fields, pair_of, factor_in, NamedItems, items_of_row, all_items, factor_pair, or_zero, column_pairs, labelled, some_pair, side_pair, side_pairs, range_pair, range_pairs, unlabelled}
+use Rattle.mps_write.specs.PlainModels.{IsPlainNumber, ArePlainItems, IsPlainColumn, IsPlainRow, IsPlain}
+use Rattle.mps_write.specs.CanonicalText.{objective_name, whole_side, row_kind, kind_of, row_right_side, row_range, row_fields, pair_of, factor_in, NamedItems, items_of_row, all_items, factor_pair, or_zero, column_pairs, some_pair, side_pairs, range_pair, range_pairs}
 use Rattle.mps_write.proofs.LineTexts.{is_field}
 use Rattle.mps_write.proofs.NumberTexts.{number_field, number_short}
 use Rattle.mps_write.proofs.NameLaws.{bytes_differ, each, each_weaker, each-append, each-map, each_unmap, AreFresh, fresh_from, each_found}
@@ -28,7 +26,7 @@ use Rattle.mps_write.proofs.Scans.{AreFields, tables_from}
 use Rattle.mps_write.proofs.RowScans.{row_line, objective_line, row_names_are}
 use Rattle.mps_write.proofs.PairScans.{IsGoodPair}
 use Rattle.mps_write.proofs.RangeScans.{IsGoodRange}
-use Rattle.mps_write.proofs.BoundScans.{ColumnBound, two_bounds, all_bounds, fields_of_bound, IsGoodBound}
+use Rattle.mps_write.proofs.BoundScans.{two_bounds, all_bounds, IsGoodBound}
 use Rattle.mps_write.proofs.SidesBack.{sided_name, sided_number, sided_pair, all_sided, sided_pairs_are, not_free, range_fits}
 use Rattle.mps_write.proofs.PlainFacts.{number_kept, whole_read, name_field, IsRowName, plain_pair, some_map, each_filter_map, both_each, each_known, fresh_some, factor_kept, right_side_small, IsRange, range_kept, range_pair_good}
 

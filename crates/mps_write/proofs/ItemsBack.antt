@@ -1,23 +1,20 @@
 -- The factors of a canonical text make the terms of its model again.
-use Rattle.std.proofs.Common.{◌≡◌, ◌≢◌, ℕ, ◌+◌, ◌^◌, ◌<◌, ℤ, pos, Bool, true, false, cond, eqb, List, [], ◌∷◌, ◌++◌, length, map, filter_map, Option, Some, None, IfSome, refl, sym, ap, subst, ◌∙◌, append_assoc, length-append, arith}
+use Rattle.std.proofs.Common.{◌≡◌, ◌≢◌, ℕ, ◌+◌, ℤ, pos, Bool, true, false, cond, List, [], ◌∷◌, ◌++◌, length, map, filter_map, Option, Some, None, IfSome, refl, sym, ap, ◌∙◌, append_assoc, length-append, arith}
 use Rattle.std.specs.Prelude.{bytes_eq, find, option_map, option_and_then, nat_abs}
-use Rattle.std.specs.Fmt.{signed_decimal}
-use Rattle.std.specs.List.{range_with_len, cons_option, position_or_len, AllByRecursion}
+use Rattle.std.specs.List.{range_with_len, cons_option, position_or_len}
 use Rattle.std.proofs.lemmas.Bool.{ne_eqb}
 use Rattle.std.proofs.lemmas.Int.{ints}
 use Rattle.std.proofs.lemmas.Option.{same_Some}
 use Rattle.std.proofs.lemmas.List.{map-append, length-map}
 use Rattle.exact_math.specs.Rational.{ℚ, whole}
-use Rattle.int_model.specs.declared.model.Item.{Item}
 use Rattle.int_model.specs.declared.model.Column.{Column}
-use Rattle.mps_model.specs.Tables.{Pair, PairLine, ColumnLine, Tables}
-use Rattle.mps_model.specs.Sides.{number_at, number_beside, pairs_of}
-use Rattle.mps_model.specs.Bounds.{lines_of_column, column_names}
+use Rattle.mps_model.specs.Tables.{Pair, Tables}
+use Rattle.mps_model.specs.Sides.{number_at, number_beside}
+use Rattle.mps_model.specs.Bounds.{column_names}
 use Rattle.mps_model.specs.StatedModel.{item_with, factor_at, item_at, items_of}
-use Rattle.mps_model.specs.FaultRules.{is_among}
 use Rattle.mps_write.specs.PlainModels.{IsPlainNumber, ArePlainItems}
 use Rattle.mps_write.specs.CanonicalText.{objective_name, pair_of, factor_in, NamedItems, factor_pair, or_zero, column_pairs}
-use Rattle.mps_write.proofs.NameLaws.{AreFresh, fresh_at, position-behind, is_under, each_under}
+use Rattle.mps_write.proofs.NameLaws.{AreFresh, fresh_at, position-behind, is_under}
 use Rattle.mps_write.proofs.ItemLaws.{item_of, items_rebuilt}
 use Rattle.mps_write.proofs.ColumnScans.{EachSaid}
 use Rattle.mps_write.proofs.PlainFacts.{plain_read, whole_read, factor_kept}

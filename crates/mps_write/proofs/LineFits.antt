@@ -1,22 +1,21 @@
 -- The lines of a canonical text are printed and short.
-use Rattle.std.proofs.Common.{◌≡◌, ℕ, suc, ◌+◌, ◌*◌, ◌<◌, ◌≤◌, Bool, true, false, List, [], ◌∷◌, ◌++◌, length, map, filter_map, Option, Some, None, refl, sym, ap, subst, ◌∙◌, append_assoc, length-append, arith}
-use Rattle.std.specs.Prelude.{codes, flat_map, option_to_list, neg_ℤ}
+use Rattle.std.proofs.Common.{◌≡◌, ℕ, suc, ◌+◌, ◌*◌, ◌≤◌, true, List, [], ◌∷◌, ◌++◌, length, map, filter_map, Option, Some, None, refl, subst, length-append, arith}
+use Rattle.std.specs.Prelude.{codes, option_to_list, neg_ℤ}
 use Rattle.std.specs.List.{list_all, cons_option, AllByRecursion}
 use Rattle.std.proofs.Math.Nat.{mul-le-mul_right}
 use Rattle.std.proofs.lemmas.List.{length-map}
 use Rattle.int_model.specs.declared.model.Column.{Column}
-use Rattle.int_model.specs.declared.model.Row.{Row}
 use Rattle.int_model.specs.declared.model.Model.{Model}
 use Rattle.mps_model.specs.Tables.{Pair}
 use Rattle.mps_fields.specs.Lines.{most_bytes}
 use Rattle.mps_write.specs.PlainModels.{IsPlainColumn, IsPlain}
-use Rattle.mps_write.specs.CanonicalText.{Fields, data_line, in_lines, section, section_of_some, objective_name, row_fields, row_table, NamedItems, items_of_row, all_items, factor_pair, or_zero, column_pairs, labelled, column_table, some_pair, side_pair, side_pairs, range_pair, range_pairs, unlabelled, bound_fields, bound_table, canonical_lines, canonical_text}
+use Rattle.mps_write.specs.CanonicalText.{Fields, data_line, in_lines, section, section_of_some, objective_name, row_fields, row_table, NamedItems, items_of_row, all_items, factor_pair, or_zero, column_pairs, labelled, column_table, some_pair, side_pair, side_pairs, range_pair, range_pairs, unlabelled, bound_table, canonical_lines, canonical_text}
 use Rattle.mps_write.proofs.LineTexts.{is_text_byte, data_line-text}
 use Rattle.mps_write.proofs.NameLaws.{each_weaker, each-append, each-map}
 use Rattle.mps_write.proofs.Scans.{AreFields}
 use Rattle.mps_write.proofs.PairScans.{IsGoodPair, two_fields}
-use Rattle.mps_write.proofs.ColumnScans.{IsGoodLabel, three_fields}
-use Rattle.mps_write.proofs.BoundScans.{ColumnBound, all_bounds, fields_of_bound, IsGoodBound, bound_table_is}
+use Rattle.mps_write.proofs.ColumnScans.{three_fields}
+use Rattle.mps_write.proofs.BoundScans.{all_bounds, fields_of_bound, IsGoodBound, bound_table_is}
 use Rattle.mps_write.proofs.PlainFacts.{good_label}
 use Rattle.mps_write.proofs.GoodTables.{all_names, plain_columns, row_fields_can, column_pairs_good, side_pairs_good, range_pairs_plain, bounds_good}
 

@@ -1,9 +1,9 @@
 -- The lines of a text, and the fields of a line, are those that it was made of.
-use Rattle.std.proofs.Common.{◌≡◌, ℕ, zero, suc, ◌+◌, ◌-◌, ◌<◌, ◌≤◌, Bool, true, false, true≢false, cond, not, leb, eqb, ◌&&◌, ◌||◌, List, [], ◌∷◌, ◌++◌, length, map, get_or, take, refl, sym, ap, subst, ◌∙◌, append_assoc, append-nil, arith}
+use Rattle.std.proofs.Common.{◌≡◌, ℕ, zero, suc, ◌+◌, ◌-◌, ◌<◌, ◌≤◌, Bool, true, false, true≢false, cond, leb, eqb, ◌&&◌, List, [], ◌∷◌, ◌++◌, length, map, get_or, take, refl, sym, ap, ◌∙◌, append_assoc, arith}
 use Rattle.std.specs.List.{list_all, AllByRecursion}
 use Rattle.std.proofs.lemmas.Bool.{and_from, and_parts, leb-true, le-leb, ne_eqb, or_from}
 use Rattle.std.proofs.lemmas.List.Folds.{list_all-append}
-use Rattle.mps_fields.specs.Lines.{Line, onto_first, pieces_of, without_return, lines_of, is_blank, is_blank_line, is_comment, is_section_line}
+use Rattle.mps_fields.specs.Lines.{onto_first, pieces_of, without_return, lines_of, is_blank, is_blank_line}
 use Rattle.mps_fields.specs.FreeFields.{Span, ends_run, onto_first_field, fields_from, free_fields}
 use Rattle.mps_write.specs.CanonicalText.{data_line, in_lines}
 

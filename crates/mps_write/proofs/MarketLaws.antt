@@ -1,24 +1,23 @@
 -- A market model, put together number by number, and that it is plain.
-use Rattle.std.proofs.Common.{◌≡◌, ◌≢◌, ◌↔◌, ℕ, zero, suc, ◌+◌, ◌-◌, ◌*◌, ◌/◌, ◌%◌, ◌^◌, ◌<◌, ◌≤◌, pos, Bool, true, false, cond, eqb, leb, List, [], ◌∷◌, ◌++◌, length, map, filter_map, get_or, drop, decimal, Option, Some, None, refl, sym, ap, subst, ◌∙◌, add-one, length-append, arith}
-use Rattle.std.specs.Prelude.{sum, option_to_list, All, AllPairs, nat_abs, codes, IsTrue}
-use Rattle.std.specs.List.{range_with_len, cons_option, AllByRecursion, list_all}
+use Rattle.std.proofs.Common.{◌≡◌, ◌≢◌, ℕ, zero, suc, ◌+◌, ◌*◌, ◌/◌, ◌^◌, ◌<◌, ◌≤◌, pos, true, false, cond, eqb, leb, List, [], ◌∷◌, ◌++◌, length, map, filter_map, get_or, drop, decimal, Option, Some, None, refl, sym, ap, subst, ◌∙◌, add-one, arith}
+use Rattle.std.specs.Prelude.{sum, option_to_list, All, AllPairs, nat_abs, codes}
+use Rattle.std.specs.List.{range_with_len, cons_option, list_all}
 use Rattle.std.proofs.lemmas.Bool.{and_parts, leb-true}
 use Rattle.std.proofs.lemmas.Fmt.{decimal_injective, length-decimal-le}
-use Rattle.std.proofs.lemmas.List.{map-append}
 use Rattle.std.proofs.lemmas.List.Elements.{All-nil, All-cons}
 use Rattle.std.proofs.lemmas.List.Sums.{sum_by_push}
 use Rattle.std.proofs.lemmas.List.FromFn.{map-range_with_len_more, length-map-range_with_len}
 use Rattle.std.proofs.lemmas.List.Kept.{AllPairs-cons}
-use Rattle.exact_math.specs.Rational.{ℚ, whole, IsWhole}
+use Rattle.exact_math.specs.Rational.{ℚ, whole}
 use Rattle.exact_math.specs.RationalOrder.{le_refl}
 use Rattle.mps_fields.specs.BooleanLaws.{either, above_zero}
-use Rattle.mps_fields.specs.Decimal.{is_digit, is_digits}
+use Rattle.mps_fields.specs.Decimal.{is_digit}
 use Rattle.mps_fields.specs.ReadingLaws.{is_digits-all}
 use Rattle.int_model.specs.declared.model.Item.{Item}
 use Rattle.int_model.specs.declared.model.Column.{Column}
 use Rattle.int_model.specs.declared.model.Row.{Row}
 use Rattle.int_model.specs.declared.model.Model.{Model}
-use Rattle.mps_write.specs.PlainModels.{IsPlainNumber, IsNameByte, IsPlainName, IsPlainItem, ArePlainItems, IsPlainColumn, IsPlainRow, IsPlain}
+use Rattle.mps_write.specs.PlainModels.{IsPlainNumber, IsNameByte, IsPlainName, IsPlainItem, IsPlainColumn, IsPlainRow, IsPlain}
 use Rattle.mps_write.specs.Markets.{next_number, stream_at, market_factor, market_factors, market_item, numbered_name, market_row, market_column, market_model}
 use Rattle.mps_write.proofs.ItemLaws.{Rise, rise_later, distinct_is_rise}
 use Rattle.mps_write.proofs.NumberTexts.{decimal_digits}

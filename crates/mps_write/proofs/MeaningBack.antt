@@ -1,19 +1,17 @@
 -- The canonical text of a plain model means that model, and is no longer than a text may be.
-use Rattle.std.proofs.Common.{◌≡◌, ℕ, ◌+◌, ◌*◌, ◌≤◌, List, [], ◌∷◌, ◌++◌, length, map, None, Ok, refl, sym, ap, ◌∙◌, append_assoc, length-append, arith}
+use Rattle.std.proofs.Common.{◌≡◌, ℕ, ◌+◌, List, [], ◌∷◌, ◌++◌, length, None, Ok, refl, sym, ap, ◌∙◌, append_assoc}
 use Rattle.std.specs.Prelude.{codes}
-use Rattle.std.proofs.lemmas.List.{length-map}
 use Rattle.int_model.specs.declared.model.Model.{Model}
-use Rattle.mps_fields.specs.Lines.{most_bytes, Line, numbered}
+use Rattle.mps_fields.specs.Lines.{Line, numbered}
 use Rattle.mps_model.specs.declared.layout.Layout.TheVariants.{Free}
 use Rattle.mps_model.specs.declared.lines.section.Section.TheVariants.{Endata as ENDATA}
 use Rattle.mps_model.specs.Sections.{text_lines}
-use Rattle.mps_model.specs.Tables.{tables_of}
 use Rattle.mps_model.specs.StatedModel.{stated}
 use Rattle.mps_model.specs.Meaning.{first_column_fault, unless_fault, meaning}
 use Rattle.mps_model.specs.SectionLaws.{begins_found}
 use Rattle.mps_model.specs.TextScanLaws.{IsScanned, end_found}
 use Rattle.mps_write.specs.PlainModels.{IsPlain}
-use Rattle.mps_write.specs.CanonicalText.{Fields, data_line, section, section_of_some, row_fields, row_table, items_of_row, all_items, column_table, some_pair, side_pair, side_pairs, range_pair, range_pairs, unlabelled, bound_table, canonical_lines, canonical_text}
+use Rattle.mps_write.specs.CanonicalText.{canonical_lines, canonical_text}
 use Rattle.mps_write.proofs.LineTexts.{lines_of-in_lines}
 use Rattle.mps_write.proofs.Scans.{line_of, section_clear, numbered-append}
 use Rattle.mps_write.proofs.SectionScans.{end_heading}

@@ -1,8 +1,8 @@
 -- Names that are all different, and what stands beside one of them.
-use Rattle.std.proofs.Common.{◌≡◌, ◌≢◌, ℕ, zero, suc, ◌+◌, ◌<◌, Bool, true, false, true≢false, cond, not, ◌||◌, List, [], ◌∷◌, ◌++◌, length, map, get_or, filter_map, Option, Some, None, refl, sym, ap, subst, ◌∙◌, append_assoc, append-nil, arith}
+use Rattle.std.proofs.Common.{◌≡◌, ◌≢◌, ℕ, suc, ◌+◌, Bool, true, false, true≢false, cond, not, List, [], ◌∷◌, ◌++◌, length, map, filter_map, Option, Some, None, refl, sym, ap, subst, ◌∙◌, append_assoc, append-nil, arith}
 use Rattle.std.specs.Prelude.{find, bytes_eq, All, AllPairs}
-use Rattle.std.specs.List.{list_any, cons_option, position_or_len, AllByRecursion, IsDistinct}
-use Rattle.std.proofs.lemmas.Bool.{or_from, or_parts, or_left, or_right, not-true}
+use Rattle.std.specs.List.{cons_option, position_or_len, AllByRecursion}
+use Rattle.std.proofs.lemmas.Bool.{or_from, or_parts, or_left, or_right}
 use Rattle.std.proofs.lemmas.Slice.Eq.{bytes_eq-Decides}
 use Rattle.std.proofs.lemmas.List.{map-append}
 use Rattle.std.proofs.lemmas.List.Elements.{filter_map-append}

@@ -1,18 +1,17 @@
 -- How a whole number is spelled: its bytes, its length, and that it is read again.
-use Rattle.std.proofs.Common.{◌≡◌, ℕ, zero, suc, ◌+◌, ◌-◌, ◌*◌, ◌/◌, ◌%◌, ◌^◌, ◌<◌, ◌≤◌, ℤ, pos, negsuc, Bool, true, false, leb, eqb, ◌&&◌, List, [], ◌∷◌, ◌++◌, length, decimal, Some, None, Ok, refl, sym, ap, subst, ◌∙◌, append-nil, length-append, arith}
-use Rattle.std.specs.Prelude.{nat_abs, neg_ℤ, ◌*ℤ◌, IsTrue, nat_lt, cond, Err}
+use Rattle.std.proofs.Common.{◌≡◌, ℕ, suc, ◌+◌, ◌-◌, ◌*◌, ◌/◌, ◌%◌, ◌^◌, ◌<◌, ◌≤◌, ℤ, pos, negsuc, true, leb, eqb, ◌&&◌, List, [], ◌∷◌, ◌++◌, length, decimal, None, Ok, refl, sym, ap, subst, ◌∙◌, append-nil, length-append, arith}
+use Rattle.std.specs.Prelude.{nat_abs, ◌*ℤ◌, cond, Err}
 use Rattle.std.specs.Fmt.{signed_decimal}
 use Rattle.std.specs.List.{list_all}
 use Rattle.std.proofs.lemmas.Bool.{and_from, and_parts, le-leb, leb-true, or_right, lt-ltb}
 use Rattle.std.proofs.lemmas.Fmt.{decimal_by_steps_wide, length-decimal-le_wide}
-use Rattle.std.proofs.lemmas.Int.{ints}
 use Rattle.std.proofs.Math.Nat.{pow-succ'}
-use Rattle.exact_math.specs.Rational.{ℚ, whole}
+use Rattle.exact_math.specs.Rational.{whole}
 use Rattle.exact_math.specs.IntegerRing.{linear}
 use Rattle.mps_fields.specs.declared.numbers.NumberFault.TheVariants.{WideNumber}
 use Rattle.mps_fields.specs.Decimal.{is_digit, is_digits, digits_value, Sign, sign_text, unsigned, minus, Decimal, Spells, means_number, fits_product, fits_scaled, fits, mantissa, signed}
 use Rattle.mps_write.proofs.LineTexts.{is_field_byte, is_field}
-use Rattle.mps_fields.specs.Reading.{decimal_of, value_of, number_of}
+use Rattle.mps_fields.specs.Reading.{value_of, number_of}
 use Rattle.mps_fields.specs.ReadingLaws.{spells_found}
 
 -- ---- digits

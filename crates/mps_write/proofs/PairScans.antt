@@ -1,21 +1,18 @@
 -- Pairs of a row and a number that a canonical text has, and its lines of RHS.
-use Rattle.std.proofs.Common.{◌≡◌, ℕ, ◌+◌, ◌≤◌, Bool, true, false, cond, not, List, [], ◌∷◌, ◌++◌, length, map, Option, Some, None, refl, sym, ap, subst, ◌∙◌, append_assoc, append-nil, length-append, arith, Ok}
-use Rattle.std.specs.Prelude.{bytes_eq, codes, option_to_list, option_map, flat_map, slice_get}
+use Rattle.std.proofs.Common.{◌≡◌, ℕ, ◌≤◌, Bool, true, false, not, List, [], ◌∷◌, ◌++◌, length, map, Option, Some, None, refl, ap, subst, ◌∙◌, length-append, arith, Ok}
+use Rattle.std.specs.Prelude.{bytes_eq, codes, option_to_list}
 use Rattle.std.specs.Option.{option_or}
 use Rattle.std.specs.List.{last_or, AllByRecursion}
-use Rattle.std.proofs.lemmas.List.{map-append}
 use Rattle.std.proofs.lemmas.List.Concat.{flat_map-append}
-use Rattle.exact_math.specs.Rational.{ℚ}
 use Rattle.mps_fields.specs.Lines.{Line, numbered}
 use Rattle.mps_fields.specs.Reading.{number_of}
-use Rattle.mps_fields.specs.declared.numbers.NumberFault.{NumberFault}
 use Rattle.mps_model.specs.declared.layout.Layout.TheVariants.{Free}
 use Rattle.mps_model.specs.declared.fault.FaultKind.{FaultKind}
 use Rattle.mps_model.specs.declared.fault.FaultKind.TheVariants as faults
 use Rattle.mps_model.specs.declared.lines.section.Section.{Section}
 use Rattle.mps_model.specs.declared.lines.section.Section.TheVariants.{Rhs as RHS}
 use Rattle.mps_model.specs.SixFields.{set_places}
-use Rattle.mps_model.specs.Tables.{RowLine, Pair, PairLine, ColumnLine, BoundLine, Tables, set_said, set_at}
+use Rattle.mps_model.specs.Tables.{RowLine, Pair, PairLine, ColumnLine, set_said, set_at}
 use Rattle.mps_model.specs.Sides.{number_at, pairs_of}
 use Rattle.mps_model.specs.FaultRules.{first_holding, is_among, is_not_number, is_wide_number}
 use Rattle.mps_model.specs.RowFaults.{row_names}

@@ -1,9 +1,9 @@
 -- What a plain model gives for its text: fields that can stand in a line, numbers that are read, and names that differ.
-use Rattle.std.proofs.Common.{◌≡◌, ◌≢◌, ℕ, ◌+◌, ◌^◌, ◌<◌, ◌≤◌, ℤ, pos, negsuc, Bool, true, false, true≢false, cond, not, ◌||◌, ◌&&◌, leb, List, [], ◌∷◌, ◌++◌, length, map, filter_map, Option, Some, None, IfSome, Ok, refl, sym, ap, subst, ◌∙◌, arith}
-use Rattle.std.specs.Prelude.{All, bytes_eq, codes, option_map, find, nat_abs, neg_ℤ, ◌-ℤ◌, ◌≤ℤ◌, ◌==◌}
+use Rattle.std.proofs.Common.{◌≡◌, ◌≢◌, ℕ, ◌^◌, ◌<◌, ◌≤◌, ℤ, pos, true, false, cond, leb, List, [], ◌∷◌, ◌++◌, length, map, filter_map, Option, Some, None, IfSome, Ok, refl, sym, ap, subst, ◌∙◌, arith}
+use Rattle.std.specs.Prelude.{bytes_eq, codes, option_map, find, nat_abs, ◌-ℤ◌, ◌≤ℤ◌, ◌==◌}
 use Rattle.std.specs.Ordering.{int_eq}
 use Rattle.std.specs.Fmt.{signed_decimal}
-use Rattle.std.specs.List.{list_all, list_any, cons_option, AllByRecursion}
+use Rattle.std.specs.List.{list_all, cons_option, AllByRecursion}
 use Rattle.std.proofs.lemmas.Bool.{and_from, le-leb, or_left, or_right, or_from, or_parts}
 use Rattle.std.proofs.lemmas.List.Folds.{list_any-append}
 use Rattle.std.proofs.lemmas.Int.{ints}
@@ -16,13 +16,11 @@ use Rattle.mps_model.specs.Sides.{number_at, number_or_zero}
 use Rattle.mps_model.specs.FaultRules.{is_among}
 use Rattle.int_model.specs.declared.model.Item.{Item}
 use Rattle.int_model.specs.declared.model.Column.{Column}
-use Rattle.int_model.specs.declared.model.Row.{Row}
-use Rattle.int_model.specs.declared.model.Model.{Model}
-use Rattle.mps_write.specs.PlainModels.{IsPlainNumber, IsNameByte, IsPlainName, IsPlainItem, ArePlainItems, ArePlainSides, IsPlainColumn, IsPlainRow, IsPlain}
-use Rattle.mps_write.specs.CanonicalText.{objective_name, whole_side, right_side, range_of, row_right_side, row_range, pair_of, factor_in, NamedItems, items_of_row, all_items, factor_pair, or_zero, column_pairs, some_pair, side_pair, range_pair}
+use Rattle.mps_write.specs.PlainModels.{IsPlainNumber, IsNameByte, IsPlainName, IsPlainItem, ArePlainItems, ArePlainSides, IsPlainColumn}
+use Rattle.mps_write.specs.CanonicalText.{whole_side, right_side, range_of, pair_of, factor_in}
 use Rattle.mps_write.proofs.LineTexts.{is_field_byte, is_field}
 use Rattle.mps_write.proofs.NumberTexts.{number_read, number_field, number_short, range_short}
-use Rattle.mps_write.proofs.NameLaws.{bytes_same, bytes_differ, each, each_weaker, AreFresh, fresh_from}
+use Rattle.mps_write.proofs.NameLaws.{bytes_same, each, each_weaker, AreFresh}
 use Rattle.mps_write.proofs.PairScans.{IsGoodPair}
 use Rattle.mps_write.proofs.ColumnScans.{IsGoodLabel}
 

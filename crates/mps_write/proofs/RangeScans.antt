@@ -1,5 +1,5 @@
 -- The lines of RANGES in a canonical text have no fault.
-use Rattle.std.proofs.Common.{◌≡◌, ℕ, Bool, true, false, not, List, [], ◌∷◌, ◌++◌, map, Option, Some, None, refl, sym, ap, subst, ◌∙◌}
+use Rattle.std.proofs.Common.{◌≡◌, ℕ, Bool, true, false, not, List, [], ◌∷◌, ◌++◌, map, Some, None, refl, ap, subst, ◌∙◌}
 use Rattle.std.specs.Prelude.{option_to_list}
 use Rattle.std.specs.Option.{option_map_or}
 use Rattle.std.specs.List.{last_or, AllByRecursion}
@@ -12,7 +12,7 @@ use Rattle.mps_model.specs.Tables.{RowLine, Pair, PairLine, ColumnLine}
 use Rattle.mps_model.specs.Sides.{is_free_row}
 use Rattle.mps_model.specs.FaultRules.{first_holding, is_among, is_not_number, is_wide_number}
 use Rattle.mps_model.specs.RowFaults.{row_names}
-use Rattle.mps_model.specs.PairFaults.{pairs_fault, row_named, has_wide_side, range_fault, set_fault}
+use Rattle.mps_model.specs.PairFaults.{row_named, has_wide_side, range_fault, set_fault}
 use Rattle.mps_write.specs.CanonicalText.{data_line, unlabelled}
 use Rattle.mps_write.proofs.NameLaws.{AreFresh, each_at, fresh_at}
 use Rattle.mps_write.proofs.Scans.{IsPassed, line_of, passed_data, kept_along, tables_from}

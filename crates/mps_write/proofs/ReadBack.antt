@@ -1,8 +1,7 @@
 -- The canonical text of a plain model, read in free form, means that model.
-use Rattle.std.proofs.Common.{◌≡◌, ℕ, ◌+◌, ◌^◌, ◌<◌, ◌≤◌, ℤ, pos, Bool, true, false, List, [], ◌∷◌, ◌++◌, length, map, filter_map, Option, Some, None, Ok, refl, sym, ap, subst, ◌∙◌, append_assoc, append-nil, arith}
-use Rattle.std.specs.Prelude.{codes, find, option_map, nat_abs, neg_ℤ}
-use Rattle.std.specs.List.{list_all, list_any, last_or, AllByRecursion}
-use Rattle.std.proofs.lemmas.Int.{ints}
+use Rattle.std.proofs.Common.{◌≡◌, ℕ, ◌^◌, ◌<◌, ◌≤◌, ℤ, List, [], ◌∷◌, length, map, filter_map, Option, Some, None, refl, sym, ap, ◌∙◌, arith}
+use Rattle.std.specs.Prelude.{find, option_map, nat_abs, neg_ℤ}
+use Rattle.std.specs.List.{AllByRecursion}
 use Rattle.exact_math.specs.Rational.{ℚ, whole, neg_ℚ}
 use Rattle.exact_math.specs.IntegerRing.{linear}
 use Rattle.exact_math.specs.RationalLaws.{same_from_cross}
@@ -11,34 +10,22 @@ use Rattle.int_model.specs.declared.model.Item.{Item}
 use Rattle.int_model.specs.declared.model.Column.{Column}
 use Rattle.int_model.specs.declared.model.Row.{Row}
 use Rattle.int_model.specs.declared.model.Model.{Model}
-use Rattle.mps_fields.specs.Lines.{Line, numbered}
-use Rattle.mps_model.specs.declared.layout.Layout.TheVariants.{Free}
-use Rattle.mps_model.specs.declared.lines.section.Section.{Section}
-use Rattle.mps_model.specs.declared.lines.section.Section.TheVariants.{Name as NAME, Rows as ROWS, Columns as COLUMNS, Rhs as RHS, Ranges as RANGES, Bounds as BOUNDS, Endata as ENDATA}
-use Rattle.mps_model.specs.Sections.{begins, text_lines}
-use Rattle.mps_model.specs.SectionOrder.{is_in_order}
-use Rattle.mps_model.specs.Tables.{RowLine, Pair, PairLine, ColumnLine, Tables}
+use Rattle.mps_model.specs.Tables.{PairLine, Tables}
 use Rattle.mps_model.specs.Sides.{Sides, side_in, number_beside, pairs_of, sided_rows, objective_row, sides_of, ranged_sides, constant_of}
 use Rattle.mps_model.specs.Bounds.{column_names}
-use Rattle.mps_model.specs.StatedModel.{items_of, objective_items, stated_row, stated_column, stated}
-use Rattle.mps_model.specs.Meaning.{first_column_fault, unless_fault, meaning}
-use Rattle.mps_model.specs.TextScanLaws.{IsScanned, end_found}
+use Rattle.mps_model.specs.StatedModel.{items_of, objective_items, stated_row, stated}
+use Rattle.mps_model.specs.Meaning.{first_column_fault}
 use Rattle.mps_write.specs.PlainModels.{ArePlainItems, ArePlainSides, IsPlainRow, IsPlain}
-use Rattle.mps_write.specs.CanonicalText.{Fields, data_line, in_lines, section, section_of_some, objective_name, row_fields, row_table, row_right_side, row_range, NamedItems, items_of_row, all_items, factor_pair, column_table, side_pairs, range_pairs, unlabelled, bound_table, canonical_lines, canonical_text}
-use Rattle.mps_write.proofs.LineTexts.{is_text_byte, lines_of-in_lines}
-use Rattle.mps_write.proofs.NameLaws.{AreFresh, is_under, each_under, each_weaker, each_unmap, map_agrees}
-use Rattle.mps_write.proofs.Scans.{IsPassed, passed_none, section_clear, tables_from, line_of}
-use Rattle.mps_write.proofs.RowScans.{row_line, objective_line, sided_is, row_names_are, rows_passed, objective_passed}
-use Rattle.mps_write.proofs.PairScans.{IsGoodPair, SayPairs, say_none, SidesPassed, sides_passed}
-use Rattle.mps_write.proofs.ColumnScans.{EachSaid, ColumnsPassed, columns_passed}
-use Rattle.mps_write.proofs.RangeScans.{RangesPassed, ranges_passed}
-use Rattle.mps_write.proofs.BoundScans.{all_bounds, bound_line, fields_of_bound, bound_table_is, bounds_passed}
-use Rattle.mps_write.proofs.SectionScans.{name_heading, rows_heading, columns_heading, sides_heading, ranges_heading, bounds_heading, end_heading, ArePassed, begin, then_lines, whole_section}
+use Rattle.mps_write.specs.CanonicalText.{row_right_side, row_range, NamedItems, items_of_row, all_items, factor_pair, side_pairs, range_pairs}
+use Rattle.mps_write.proofs.NameLaws.{is_under, each_under, each_unmap, map_agrees}
+use Rattle.mps_write.proofs.RowScans.{row_line, objective_line, sided_is}
+use Rattle.mps_write.proofs.ColumnScans.{EachSaid}
+use Rattle.mps_write.proofs.BoundScans.{all_bounds, bound_line}
 use Rattle.mps_write.proofs.ItemsBack.{named_pair, items_back}
 use Rattle.mps_write.proofs.SidesBack.{sided_name, sided_number, all_sided, sides_back, ranges_back, sides_made, both_sides}
 use Rattle.mps_write.proofs.BoundsBack.{columns_back, columns_clear}
-use Rattle.mps_write.proofs.PlainFacts.{IsRowName, both_each, good_label, right_side_small}
-use Rattle.mps_write.proofs.GoodTables.{map_map, all_names, plain_rows, plain_columns, fresh_rows, fresh_rows_alone, fresh_columns, fresh_named, fresh_sided, row_fields_can, items_can, column_pairs_good, column_pairs_fresh, sides_can, side_pairs_good, side_pairs_fresh, range_pairs_good, range_pairs_fresh, bounds_good}
+use Rattle.mps_write.proofs.PlainFacts.{IsRowName, both_each}
+use Rattle.mps_write.proofs.GoodTables.{map_map, all_names, plain_rows, plain_columns, fresh_rows_alone, fresh_columns, fresh_named, fresh_sided, items_can, sides_can}
 
 -- ---- the tables of the text
 

@@ -1,8 +1,8 @@
 -- The lines of ROWS in a canonical text have no fault, and state the rows.
-use Rattle.std.proofs.Common.{◌≡◌, ℕ, ◌+◌, ◌<◌, ◌≤◌, ℤ, Bool, true, false, cond, not, ◌||◌, ◌&&◌, leb, List, [], ◌∷◌, ◌++◌, length, map, filter, Option, Some, None, refl, sym, ap, subst, ◌∙◌, append_assoc, append-nil, length-append, arith}
-use Rattle.std.specs.Prelude.{bytes_eq, codes, option_to_list}
+use Rattle.std.proofs.Common.{◌≡◌, ℕ, ◌<◌, ◌≤◌, ℤ, Bool, true, false, cond, not, ◌||◌, ◌&&◌, leb, List, [], ◌∷◌, ◌++◌, length, map, Option, Some, None, refl, sym, ap, subst, ◌∙◌, length-append, arith}
+use Rattle.std.specs.Prelude.{codes, option_to_list}
 use Rattle.std.specs.Ordering.{int_eq}
-use Rattle.std.specs.List.{list_any, last_or, AllByRecursion}
+use Rattle.std.specs.List.{last_or, AllByRecursion}
 use Rattle.std.proofs.lemmas.Bool.{lt-leb, or_right}
 use Rattle.std.proofs.Math.Bool.{and-false}
 use Rattle.std.proofs.lemmas.List.{map-append, length-map}
@@ -12,7 +12,7 @@ use Rattle.mps_model.specs.declared.fault.FaultKind.TheVariants as faults
 use Rattle.mps_model.specs.declared.lines.section.Section.{Section}
 use Rattle.mps_model.specs.declared.lines.section.Section.TheVariants.{Rows as ROWS}
 use Rattle.mps_model.specs.SixFields.{row_places}
-use Rattle.mps_model.specs.Tables.{RowLine, Tables, row_said, row_at}
+use Rattle.mps_model.specs.Tables.{RowLine, row_said, row_at}
 use Rattle.mps_model.specs.Sides.{is_free_row, has_sides, sided_rows}
 use Rattle.mps_model.specs.FaultRules.{first_holding, is_among}
 use Rattle.mps_model.specs.RowFaults.{row_names, row_fault}

@@ -1,5 +1,5 @@
 -- What is known where the lines of a text are passed one by one and none has a fault.
-use Rattle.std.proofs.Common.{◌≡◌, ℕ, ◌+◌, ◌≤◌, Bool, true, false, true≢false, cond, not, ◌||◌, ◌&&◌, eqb, leb, ltb, List, [], ◌∷◌, ◌++◌, length, map, Option, Some, None, refl, sym, ap, subst, ◌∙◌, append_assoc, append-nil, arith}
+use Rattle.std.proofs.Common.{◌≡◌, ℕ, ◌+◌, ◌≤◌, true, false, not, ◌||◌, ◌&&◌, eqb, ltb, List, [], ◌∷◌, ◌++◌, length, map, Some, None, refl, sym, ap, subst, ◌∙◌, append_assoc, append-nil, arith}
 use Rattle.std.specs.Option.{option_map_or}
 use Rattle.std.specs.List.{list_all, list_any, last_or, AllByRecursion}
 use Rattle.std.proofs.lemmas.Bool.{and_from, and_parts, or_from, le-ltb}
@@ -9,19 +9,19 @@ use Rattle.mps_model.specs.declared.layout.Layout.TheVariants.{Free}
 use Rattle.mps_model.specs.declared.fault.FaultKind.TheVariants as faults
 use Rattle.mps_model.specs.declared.lines.section.Section.{Section}
 use Rattle.mps_model.specs.declared.lines.section.Section.TheVariants.{Endata as ENDATA}
-use Rattle.mps_model.specs.Sections.{free_texts, begins, section_at, is_content}
-use Rattle.mps_model.specs.SectionOrder.{sections_in, is_in_order, is_same, may_come}
+use Rattle.mps_model.specs.Sections.{begins, section_at, is_content}
+use Rattle.mps_model.specs.SectionOrder.{sections_in, is_in_order, is_same}
 use Rattle.mps_model.specs.Tables.{RowLine, PairLine, ColumnLine, BoundLine, Tables, tables_of}
 use Rattle.mps_model.specs.AddedLines.{with_line}
 use Rattle.mps_model.specs.FaultRules.{first_holding}
-use Rattle.mps_model.specs.LineFaults.{is_allowed_byte, has_more_fields, section_fault, data_fault, line_fault}
+use Rattle.mps_model.specs.LineFaults.{is_allowed_byte, has_more_fields, data_fault, line_fault}
 use Rattle.mps_model.specs.Meaning.{first_line_fault}
 use Rattle.mps_model.specs.SectionLaws.{sections_still, sections_more, section_is_content}
 use Rattle.mps_model.specs.LineFaultLaws.{data_line as data_rule, section_line as section_rule, not_there}
 use Rattle.mps_model.specs.TableLaws.{HasOpenLast, open_none, open_data, open_section, tables_section, tables_line}
 use Rattle.mps_model.specs.TextScanLaws.{first_of_none, faultless_more}
 use Rattle.mps_write.specs.CanonicalText.{Fields, data_line}
-use Rattle.mps_write.proofs.LineTexts.{is_text_byte, is_field, free_texts-data_line, data_line-text, data_line-blank}
+use Rattle.mps_write.proofs.LineTexts.{is_text_byte, is_field, data_line-text, data_line-blank}
 
 -- the lines above have no fault, and begin these sections and state these tables
 pub record IsPassed (above : List Line) (sections : List Section) (tables : Tables) : Type 0 where

@@ -1,12 +1,12 @@
 -- The lines of a text so far, numbered from 1, and the lines that begin its sections.
-use Rattle.std.proofs.Common.{◌≡◌, ℕ, ◌+◌, ◌≤◌, Bool, true, false, List, [], ◌∷◌, ◌++◌, length, map, Option, Some, None, refl, sym, ap, subst, ◌∙◌, append_assoc, arith}
+use Rattle.std.proofs.Common.{◌≡◌, ℕ, ◌+◌, ◌≤◌, true, false, List, [], ◌∷◌, ◌++◌, length, map, Some, refl, sym, ap, subst, ◌∙◌, append_assoc, arith}
 use Rattle.std.specs.Prelude.{codes}
 use Rattle.std.specs.List.{list_all}
 use Rattle.mps_fields.specs.Lines.{Line, numbered, is_section_line}
 use Rattle.mps_fields.specs.FreeFields.{fields_from}
 use Rattle.mps_model.specs.declared.lines.section.Section.{Section}
 use Rattle.mps_model.specs.declared.lines.section.Section.TheVariants.{Name as NAME, Rows as ROWS, Columns as COLUMNS, Rhs as RHS, Ranges as RANGES, Bounds as BOUNDS, Endata as ENDATA}
-use Rattle.mps_model.specs.Sections.{begins, section_at}
+use Rattle.mps_model.specs.Sections.{section_at}
 use Rattle.mps_model.specs.SectionOrder.{is_same, is_in_order}
 use Rattle.mps_model.specs.SectionLaws.{begins_at}
 use Rattle.mps_model.specs.LineFaults.{has_more_fields}

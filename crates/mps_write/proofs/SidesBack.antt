@@ -1,25 +1,22 @@
 -- The numbers of RHS and RANGES in a canonical text make the sides of the rows and the constant again.
-use Rattle.std.proofs.Common.{◌≡◌, ◌≢◌, ℕ, ◌+◌, ◌^◌, ◌<◌, ◌≤◌, ℤ, pos, Bool, true, false, cond, ltb, ◌&&◌, ◌*◌, ◌/◌, List, [], ◌∷◌, ◌++◌, map, filter_map, Option, Some, None, IfSome, refl, sym, ap, subst, ◌∙◌, arith}
-use Rattle.std.specs.Prelude.{bytes_eq, codes, find, option_map, option_to_list, unwrap_or, nat_abs, neg_ℤ, ◌-ℤ◌, ◌+ℤ◌, ◌*ℤ◌}
+use Rattle.std.proofs.Common.{◌≡◌, ℕ, ◌^◌, ◌<◌, ◌≤◌, ℤ, pos, Bool, true, false, cond, ltb, ◌&&◌, ◌*◌, ◌/◌, List, [], ◌∷◌, ◌++◌, map, filter_map, Option, Some, None, IfSome, refl, sym, ap, subst, ◌∙◌, arith}
+use Rattle.std.specs.Prelude.{codes, find, option_map, option_to_list, unwrap_or, nat_abs, neg_ℤ, ◌-ℤ◌, ◌+ℤ◌, ◌*ℤ◌}
 use Rattle.std.specs.Ordering.{int_eq}
-use Rattle.std.specs.Fmt.{signed_decimal}
-use Rattle.std.specs.Option.{option_map_or}
 use Rattle.std.specs.List.{cons_option, AllByRecursion}
 use Rattle.std.proofs.lemmas.Bool.{le-ltb, lt-ltb, and_from}
 use Rattle.exact_math.specs.GcdLaws.{gcd-one}
 use Rattle.std.proofs.lemmas.Bool.Decides.{Decides-int_eq}
-use Rattle.std.proofs.lemmas.Int.{ints}
 use Rattle.std.proofs.lemmas.Option.{same_Some}
 use Rattle.exact_math.specs.IntegerRing.{linear}
-use Rattle.exact_math.specs.Rational.{ℚ, whole, ◌+ℚ◌, neg_ℚ, IsWhole}
+use Rattle.exact_math.specs.Rational.{ℚ, whole, ◌+ℚ◌, neg_ℚ}
 use Rattle.exact_math.specs.RationalFloor.{whole_from_den}
 use Rattle.exact_math.specs.RationalRing.{whole_add}
 use Rattle.mps_fields.specs.BooleanLaws.{either}
 use Rattle.int_model.specs.declared.model.Row.{Row}
 use Rattle.int_model.specs.declared.model.Model.{Model}
-use Rattle.mps_model.specs.Tables.{RowLine, Pair, PairLine}
-use Rattle.mps_model.specs.Sides.{is_free_row, sum_fits, zero_ℚ, is_negative, absolute, number_at, number_beside, pairs_of, side_in, range_step, Sides, plain_sides, stepped_sides, ranged_sides}
-use Rattle.mps_write.specs.PlainModels.{IsPlainNumber, ArePlainSides, IsPlain}
+use Rattle.mps_model.specs.Tables.{Pair, PairLine}
+use Rattle.mps_model.specs.Sides.{is_free_row, sum_fits, zero_ℚ, is_negative, number_at, number_beside, pairs_of, side_in, range_step, Sides, stepped_sides, ranged_sides}
+use Rattle.mps_write.specs.PlainModels.{ArePlainSides}
 use Rattle.mps_write.specs.CanonicalText.{objective_name, whole_side, kind_of, right_side, range_of, row_right_side, row_range, pair_of, some_pair, side_pair, side_pairs, range_pair, range_pairs}
 use Rattle.mps_write.proofs.NameLaws.{AreFresh, is_under, each_under, each_weaker}
 use Rattle.mps_write.proofs.RowScans.{row_line}

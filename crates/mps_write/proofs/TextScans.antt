@@ -1,5 +1,5 @@
 -- The lines of a canonical text are passed, section by section.
-use Rattle.std.proofs.Common.{◌≡◌, ℕ, ◌+◌, ◌≤◌, Bool, true, false, List, [], ◌∷◌, ◌++◌, length, map, Option, Some, None, refl, sym, ap, subst, ◌∙◌, append_assoc, append-nil, arith}
+use Rattle.std.proofs.Common.{◌≡◌, ℕ, ◌+◌, true, List, [], ◌∷◌, ◌++◌, length, map, Some, None, refl, sym, subst, ◌∙◌, append_assoc, append-nil}
 use Rattle.std.specs.Prelude.{codes}
 use Rattle.std.specs.List.{last_or, AllByRecursion}
 use Rattle.exact_math.specs.Rational.{whole}
@@ -10,19 +10,18 @@ use Rattle.mps_fields.specs.Lines.{Line, numbered}
 use Rattle.mps_model.specs.declared.lines.section.Section.{Section}
 use Rattle.mps_model.specs.declared.lines.section.Section.TheVariants.{Name as NAME, Rows as ROWS, Columns as COLUMNS, Rhs as RHS, Ranges as RANGES, Bounds as BOUNDS, Endata as ENDATA}
 use Rattle.mps_model.specs.SectionOrder.{is_in_order}
-use Rattle.mps_model.specs.Tables.{RowLine, Pair, PairLine, ColumnLine, Tables}
+use Rattle.mps_model.specs.Tables.{RowLine, Pair, PairLine, Tables}
 use Rattle.mps_model.specs.Sides.{side_in, pairs_of}
 use Rattle.mps_model.specs.Bounds.{column_names}
-use Rattle.mps_model.specs.RowFaults.{row_names}
 use Rattle.mps_write.specs.PlainModels.{IsPlainColumn, IsPlain}
-use Rattle.mps_write.specs.CanonicalText.{Fields, data_line, section, section_of_some, objective_name, row_fields, row_table, row_right_side, all_items, column_pairs, column_table, side_pairs, range_pairs, unlabelled, bound_table}
+use Rattle.mps_write.specs.CanonicalText.{data_line, section, section_of_some, objective_name, row_fields, row_table, row_right_side, all_items, column_pairs, column_table, side_pairs, range_pairs, unlabelled, bound_table}
 use Rattle.mps_write.proofs.NameLaws.{each_weaker, AreFresh}
 use Rattle.mps_write.proofs.Scans.{IsPassed, passed_none, tables_from, line_of}
 use Rattle.mps_write.proofs.RowScans.{row_line, objective_line, row_names_are, rows_passed, objective_passed}
-use Rattle.mps_write.proofs.PairScans.{IsGoodPair, SayPairs, say_none, SidesPassed, sides_passed}
-use Rattle.mps_write.proofs.ColumnScans.{IsGoodLabel, EachSaid, ColumnsPassed, columns_passed}
+use Rattle.mps_write.proofs.PairScans.{IsGoodPair, SidesPassed, sides_passed}
+use Rattle.mps_write.proofs.ColumnScans.{IsGoodLabel, ColumnsPassed, columns_passed}
 use Rattle.mps_write.proofs.RangeScans.{IsGoodRange, RangesPassed, ranges_passed}
-use Rattle.mps_write.proofs.BoundScans.{all_bounds, bound_line, fields_of_bound, bound_table_is, bounds_passed}
+use Rattle.mps_write.proofs.BoundScans.{all_bounds, bound_line, bound_table_is, bounds_passed}
 use Rattle.mps_write.proofs.SectionScans.{name_heading, rows_heading, columns_heading, sides_heading, ranges_heading, bounds_heading, ArePassed, begin, then_lines, whole_section}
 use Rattle.mps_write.proofs.PlainFacts.{good_label}
 use Rattle.mps_write.proofs.GoodTables.{plain_columns, fresh_rows, fresh_columns, row_fields_can, column_pairs_good, column_pairs_fresh, side_pairs_good, side_pairs_fresh, range_pairs_good, range_pairs_fresh, bounds_good}

@@ -2,7 +2,7 @@
 -- whose factors are drawn from 0 to 99 and whose right side is half the sum of the factors, rounded down.
 use Rattle.std.specs.Prelude.{ℕ, zero, suc, ◌+◌, ◌*◌, ◌/◌, ◌%◌, ◌==◌, if◌then◌else◌, List, [], ◌∷◌, map, filter_map, sum, pos, Option, Some, None, decimal}
 use Rattle.std.specs.List.{range_with_len}
-use Rattle.exact_math.specs.Rational.{ℚ, whole}
+use Rattle.exact_math.specs.Rational.{whole}
 use Rattle.int_model.specs.declared.model.Item.{Item}
 use Rattle.int_model.specs.declared.model.Column.{Column}
 use Rattle.int_model.specs.declared.model.Row.{Row}

@@ -1,7 +1,7 @@
-use Rattle.std.proofs.Common.{◌≡◌, ◌≤◌, ◌<◌, ◌+◌, ◌*◌, ◌++◌, ◌∷◌, [], map, sym, ap, subst, ◌∙◌, arith}
+use Rattle.std.proofs.Common.{◌≡◌, map, sym, ap, subst, ◌∙◌, arith}
 use Rattle.std.specs.List.{range_with_len}
 use Rattle.mps_write.specs.PlainModels.{IsPlain}
-use Rattle.mps_write.specs.Markets.{stream_at, market_row, market_column, market_model}
+use Rattle.mps_write.specs.Markets.{stream_at, market_row, market_column}
 use Rattle.mps_write.proofs.MarketLaws.{stream_start, each_more, same_parts, market_is_plain}
 use Rattle.mps_write.proofs.market_split.market.Goals as goal
 

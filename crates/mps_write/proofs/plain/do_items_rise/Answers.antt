@@ -1,4 +1,4 @@
-use Rattle.std.proofs.Common.{◌≡◌, ◌⊎◌, ◌≤◌, ◌<◌, true≢false, drop, refl, sym, ap, subst, ⊎_elim, arith}
+use Rattle.std.proofs.Common.{true≢false, refl, sym, subst, ⊎_elim, arith}
 use Rattle.std.proofs.lemmas.List.{drop_all}
 use Rattle.mps_write.proofs.ItemLaws.{Rise, distinct_is_rise, rise_next}
 use Rattle.mps_write.proofs.plain.do_items_rise.Goals as goal

@@ -1,4 +1,4 @@
-use Rattle.std.proofs.Common.{◌≡◌, true, false, true≢false, refl, List, take, take_all, sym, ap, ◌∙◌, subst}
+use Rattle.std.proofs.Common.{true≢false, refl, take, take_all, sym, ap, ◌∙◌, subst}
 use Rattle.std.specs.Prelude.{bytes_eq}
 use Rattle.std.specs.List.{list_any}
 use Rattle.int_model.specs.declared.model.Row.{Row}

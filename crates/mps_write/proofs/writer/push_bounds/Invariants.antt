@@ -1,5 +1,4 @@
 use Rattle.std.proofs.Common.{◌≡◌, ◌++◌, take, map}
-use Rattle.std.specs.Prelude.{codes}
 use Rattle.mps_write.specs.CanonicalText.{in_lines, data_line, bound_table}
 use Rattle.mps_write.proofs.writer.push_bounds.Given as goal
 

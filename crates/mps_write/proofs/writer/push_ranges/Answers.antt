@@ -1,4 +1,4 @@
-use Rattle.std.proofs.Common.{◌≡◌, ◌+◌, ◌++◌, ℕ, List, [], ◌∷◌, take, take_all, map, ap, subst, sym, ◌∙◌, append-nil}
+use Rattle.std.proofs.Common.{◌+◌, ◌++◌, take, take_all, map, ap, sym, ◌∙◌, append-nil}
 use Rattle.std.specs.Prelude.{codes, option_to_list}
 use Rattle.std.proofs.lemmas.List.{map-append}
 use Rattle.mps_write.specs.CanonicalText.{in_lines, section_of_some, range_pair, range_pairs, unlabelled}

@@ -1,4 +1,4 @@
-use Rattle.std.proofs.Common.{◌≡◌, ◌≢◌, ◌↔◌, ◌||◌, ℕ, ◌+◌, List, [], ◌∷◌, ◌++◌, Bool, Option, Some, None, take, map, filter_map, refl, ap, ap₂, subst, sym, ◌∙◌}
+use Rattle.std.proofs.Common.{◌≡◌, ◌≢◌, ◌↔◌, ◌||◌, ℕ, ◌+◌, List, [], ◌∷◌, ◌++◌, Option, Some, None, take, map, filter_map, refl, ap, ap₂, subst, sym, ◌∙◌}
 use Rattle.std.specs.Prelude.{IsTrue, is_some, option_map, option_to_list}
 use Rattle.std.proofs.lemmas.List.{map-append}
 use Rattle.exact_math.specs.Rational.{ℚ}

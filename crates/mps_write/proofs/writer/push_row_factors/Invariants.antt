@@ -1,4 +1,4 @@
-use Rattle.std.proofs.Common.{◌≡◌, ◌≢◌, ◌↔◌, ◌++◌, List, [], take, map, filter_map}
+use Rattle.std.proofs.Common.{◌≡◌, ◌≢◌, ◌↔◌, ◌++◌, [], take, map, filter_map}
 use Rattle.std.specs.Prelude.{IsTrue}
 use Rattle.mps_write.specs.CanonicalText.{in_lines, data_line, labelled, factor_pair, items_of_row}
 use Rattle.mps_write.proofs.writer.push_row_factors.Given as goal

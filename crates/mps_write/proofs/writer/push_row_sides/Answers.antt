@@ -1,8 +1,8 @@
-use Rattle.std.proofs.Common.{◌≡◌, ◌+◌, ◌++◌, ℕ, List, [], ◌∷◌, take, take_all, map, filter_map, ap, subst, sym, ◌∙◌, append_assoc}
-use Rattle.std.specs.Prelude.{codes, option_to_list, neg_ℤ}
+use Rattle.std.proofs.Common.{◌+◌, take, map, filter_map, ap, ◌∙◌}
+use Rattle.std.specs.Prelude.{option_to_list}
 use Rattle.std.proofs.lemmas.List.{map-append}
-use Rattle.mps_write.specs.CanonicalText.{objective_name, some_pair, side_pair, side_pairs, unlabelled}
-use Rattle.mps_write.proofs.CodeLaws.{table_text, taken, filter_map-push, text_more, text_headed}
+use Rattle.mps_write.specs.CanonicalText.{side_pair, unlabelled}
+use Rattle.mps_write.proofs.CodeLaws.{taken, filter_map-push, text_more}
 use Rattle.mps_write.proofs.writer.push_row_sides.Goals as goal
 
 pub loop-row-preserved : goal.loop-row-preserved

@@ -1,6 +1,6 @@
-use Rattle.std.proofs.Common.{◌≡◌, ◌++◌, take, take_all, map, refl, ap, ◌∙◌, append_assoc}
+use Rattle.std.proofs.Common.{◌++◌, take_all, map, ap, ◌∙◌, append_assoc}
 use Rattle.std.specs.Prelude.{codes}
-use Rattle.mps_write.specs.CanonicalText.{in_lines, data_line, row_fields, row_table}
+use Rattle.mps_write.specs.CanonicalText.{row_fields}
 use Rattle.mps_write.proofs.CodeLaws.{table_text}
 use Rattle.mps_write.proofs.writer.push_rows.Goals as goal
 

@@ -1,8 +1,8 @@
-use Rattle.std.proofs.Common.{◌≡◌, ◌+◌, ◌++◌, ℕ, List, [], ◌∷◌, take, take_all, map, filter_map, ap, subst, sym, ◌∙◌, append_assoc}
+use Rattle.std.proofs.Common.{◌++◌, map, filter_map, ap, ◌∙◌}
 use Rattle.std.specs.Prelude.{codes, option_to_list, neg_ℤ}
 use Rattle.std.proofs.lemmas.List.{map-append}
 use Rattle.mps_write.specs.CanonicalText.{objective_name, some_pair, side_pair, side_pairs, unlabelled}
-use Rattle.mps_write.proofs.CodeLaws.{table_text, taken, filter_map-push, text_more, text_headed, handed_on}
+use Rattle.mps_write.proofs.CodeLaws.{table_text, text_more, text_headed, handed_on}
 use Rattle.mps_write.proofs.writer.push_sides.Goals as goal
 
 pub returns : goal.returns
