@@ -11,9 +11,9 @@ use Rattle.std.proofs.lemmas.Option.{slice_get_within, get_or_from_slice_get}
 use Rattle.mps_fields.specs.BooleanLaws.{either}
 use Rattle.mps_model.specs.FaultRules.{is_among}
 use Rattle.mps_model.specs.Bounds.{without_repeats, last_of}
-use Rattle.mps_model.proofs.OnLists.FirstItemLaws.{last_or-push, before-push}
-use Rattle.mps_model.proofs.OnLists.FirstPlaceLaws.{same_bytes, bytes_same, bytes_flip, IsFirst, name_at}
-use Rattle.mps_model.proofs.OnLists.DistinctNameLaws.{AreOthers}
+use Rattle.mps_model.specs.FirstItemLaws.{last_or-push, before-push}
+use Rattle.mps_model.specs.FirstPlaceLaws.{same_bytes, bytes_same, bytes_flip, IsFirst, name_at}
+use Rattle.mps_model.specs.DistinctNameLaws.{AreOthers}
 
 -- ---- names among others
 

@@ -17,7 +17,7 @@ use Rattle.mps_model.specs.Tables.{tables_of}
 use Rattle.mps_model.specs.StatedModel.{stated, model_lines, means}
 use Rattle.mps_model.specs.LineFaults.{line_fault}
 use Rattle.mps_model.specs.Meaning.{fault_on, first_line_fault, first_column_fault, whole_fault, fault_at, unless_fault, meaning}
-use Rattle.mps_model.proofs.OnLists.FirstItemLaws.{two_more, before-cons}
+use Rattle.mps_model.specs.FirstItemLaws.{two_more, before-cons}
 
 -- ---- a list up to the first item of a kind
 

@@ -14,7 +14,7 @@ use Rattle.mps_model.specs.declared.lines.section.Section.{Section}
 use Rattle.mps_model.specs.declared.lines.section.Section.TheVariants.{Name as NAME, Rows as ROWS, Columns as COLUMNS, Rhs as RHS, Ranges as RANGES, Bounds as BOUNDS, Endata as ENDATA}
 use Rattle.mps_model.specs.Sections.{word_of, word_at, all_sections, begins, section_at, is_content, content}
 use Rattle.mps_model.specs.SectionOrder.{is_same, sections_in}
-use Rattle.mps_model.proofs.OnLists.FirstItemLaws.{find_passes}
+use Rattle.mps_model.specs.FirstItemLaws.{find_passes}
 
 -- ---- which section a line begins
 

@@ -16,9 +16,9 @@ use Rattle.mps_model.specs.Tables.{tables_of}
 use Rattle.mps_model.specs.FaultRules.{first_holding}
 use Rattle.mps_model.specs.LineFaults.{is_allowed_byte, keeps_columns, has_more_fields, section_fault, data_fault, line_fault}
 use Rattle.mps_model.specs.Meaning.{first_line_fault}
-use Rattle.mps_model.proofs.OnLines.SectionLaws.{section_is_content}
-use Rattle.mps_model.proofs.OnTexts.TextScanLaws.{none_first, none_later}
-use Rattle.mps_model.proofs.OnTables.TableLaws.{HasOpenLast, open_none, open_silent, open_data, open_section}
+use Rattle.mps_model.specs.SectionLaws.{section_is_content}
+use Rattle.mps_model.specs.TextScanLaws.{none_first, none_later}
+use Rattle.mps_model.specs.TableLaws.{HasOpenLast, open_none, open_silent, open_data, open_section}
 
 -- ---- the fault of a line, by its kind
 

@@ -14,8 +14,8 @@ use Rattle.mps_model.specs.Sections.{begins, section_at, is_content, content, ta
 use Rattle.mps_model.specs.SectionOrder.{is_same, sections_in}
 use Rattle.mps_model.specs.Tables.{RowLine, PairLine, ColumnLine, BoundLine, Tables, row_at, column_at, set_at, bound_at, tables_of}
 use Rattle.mps_model.specs.AddedLines.{with_line}
-use Rattle.mps_model.proofs.OnLists.FirstItemLaws.{last_or-push, part_of, is_open_part, part-push, part_so_far, open-push}
-use Rattle.mps_model.proofs.OnLines.SectionLaws.{same_section, is_same_itself, begins_at, section_none, section_is_content, silent_begins_none, content_kept, content_still, sections_still, sections_more, begun}
+use Rattle.mps_model.specs.FirstItemLaws.{last_or-push, part_of, is_open_part, part-push, part_so_far, open-push}
+use Rattle.mps_model.specs.SectionLaws.{same_section, is_same_itself, begins_at, section_none, section_is_content, silent_begins_none, content_kept, content_still, sections_still, sections_more, begun}
 
 -- ---- the section that goes on is the last one
 

@@ -11,7 +11,7 @@ use Rattle.mps_fields.specs.BooleanLaws.{either}
 use Rattle.mps_fields.specs.FrontLaws.{place_none}
 use Rattle.mps_model.specs.Tables.{ColumnLine}
 use Rattle.mps_model.specs.Bounds.{without_repeats, entry_lines, column_names}
-use Rattle.mps_model.proofs.OnLists.FirstPlaceLaws.{bytes_flip}
+use Rattle.mps_model.specs.FirstPlaceLaws.{bytes_flip}
 
 -- ---- distinct names
 

@@ -11,8 +11,8 @@ use Rattle.mps_model.specs.Bounds.{last_of, without_repeats, entries_of, marker_
 use Rattle.mps_model.specs.FaultRules.{is_among}
 use Rattle.mps_model.specs.ColumnTables.{column_before, columns_alone}
 use Rattle.mps_model.specs.Meaning.{first_line_of}
-use Rattle.mps_model.proofs.OnLists.NameListLaws.{among-without_repeats, without_repeats_fresh, without_repeats_known, before_first-end, before_first_none, last_of-push}
-use Rattle.mps_model.proofs.OnLists.FirstPlaceLaws.{bytes_same, bytes_flip}
+use Rattle.mps_model.specs.NameListLaws.{among-without_repeats, without_repeats_fresh, without_repeats_known, before_first-end, before_first_none, last_of-push}
+use Rattle.mps_model.specs.FirstPlaceLaws.{bytes_same, bytes_flip}
 
 -- the labels of all lines but markers
 abbrev labels : List ColumnLine → List (List ℕ)
