@@ -7,3 +7,5 @@ pub mod EachInequality
 pub mod NodeLaws
 pub mod LeastLine
 pub mod LineStops
+pub mod NumberLaws
+pub mod RisingNumbers

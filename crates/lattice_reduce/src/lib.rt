@@ -1,7 +1,10 @@
 //! Lattice reduction in whole numbers: a basis, its reduced basis, and the pair between them.
 #![tactic(auto)]
 
+mod beside;
 mod conditions;
+mod copies;
+mod division;
 mod exchange;
 mod lattice;
 mod numbers;
@@ -9,4 +12,5 @@ mod reduction;
 #[cfg(test)]
 mod tests;
 
+pub use beside::{ReducedBeside, reduce_beside};
 pub use lattice::{ReduceExcuse, ReduceStop, Reduced, reduce};

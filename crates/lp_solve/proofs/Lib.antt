@@ -10,5 +10,6 @@ pub mod SolutionLaws
 pub mod EndLaws
 pub mod LeastLaws
 pub mod RunSteps
+pub mod EndedLaws
 pub mod SolveSteps
 pub mod WorkedSystems

@@ -4,3 +4,4 @@ pub mod Values
 pub mod Certificates
 pub mod Outcomes
 pub mod Endings
+pub mod Ended

@@ -27,6 +27,13 @@ pub enum Solved {
     },
 }
 
+/// The answer of a linear program, and the pivots that led to it, which are those of Bland's rule from the beginning.
+#[derive(Debug, Drop)]
+pub struct Ended {
+    pub solved: Solved,
+    pub pivots: Pivots,
+}
+
 /// Why a linear program has no answer; the pivots are those of Bland's rule, from the beginning.
 #[derive(Debug, Drop)]
 pub enum LpExcuse {

@@ -9,5 +9,5 @@ mod solve;
 #[cfg(test)]
 mod tests;
 
-pub use answer::{LpExcuse, LpStop, Pivots, Point, Solved, Weights};
-pub use solve::minimise;
+pub use answer::{Ended, LpExcuse, LpStop, Pivots, Point, Solved, Weights};
+pub use solve::{minimise, minimise_with_pivots};

@@ -1,14 +1,16 @@
 //! Bland's simplex.
 ghost use Rattle.std.specs.Prelude.{◌≡◌, ◌≢◌, ℕ, ◌+◌, ◌*◌, ◌<◌, ◌≤◌, ◌^◌, ◌↔◌, List, [], length, IfOk, IfErr, OnOk};
 ghost use Rattle.exact_math.specs.Rational.{ℚ};
+ghost use Rattle.lp_dict.specs.Dictionaries.{first_dictionary};
 ghost use Rattle.lp_dict.specs.Sizes.{MeetsCondition};
 ghost use Rattle.lp_dict.specs.Systems.{left_sides, wholes, IsPoint};
 ghost use Rattle.lp_solve.specs.Certificates.{IsBounded};
 ghost use Rattle.lp_solve.specs.Outcomes.{SolvedIs, StopIs, SaysEmpty};
+ghost use Rattle.lp_solve.specs.Ended.{EndsSo};
 ghost use Rattle.lp_solve.specs.Endings.{EndsAs, EndingIs};
 ghost use Rattle.lp_solve.specs.Rule.{AreLegal};
 
-use crate::answer::{LpExcuse, LpStop, Pivots, Solved};
+use crate::answer::{Ended, LpExcuse, LpStop, Pivots, Solved};
 use crate::finish::{empty, least};
 use crate::search::{Step, next_step};
 use lp_dict::{Dict, System};
@@ -84,14 +86,19 @@ fn run(
 }
 
 /// The least value of the form at the rational points of the system, by pivots of Bland's rule from the dictionary in which
-/// each slack is basic.
+/// each slack is basic, and these pivots.
 ///
 /// The multipliers, one for each row, show each answer. An excuse has the pivots that were made, each a row and a column.
-pub fn minimise(alloc: Global, system: &System, form: &Form<Kernel>) -> Result<Solved, LpStop>
+pub fn minimise_with_pivots(
+    alloc: Global,
+    system: &System,
+    form: &Form<Kernel>,
+) -> Result<Ended, LpStop>
     requires condition { MeetsCondition system.now.rows system.now.limits form.now }
     requires bounded { IsBounded (length form.now) (left_sides system.now.rows) (wholes system.now.limits) }
-    ensures solved { IfOk result (SolvedIs (left_sides system.now.rows) (wholes system.now.limits) (wholes form.now)) }
-    ensures empty { IfOk result (λ answer. SaysEmpty answer ↔ ((y : List ℚ) → ¬ (IsPoint (length form.now) (left_sides system.now.rows) (wholes system.now.limits) y))) }
+    ensures solved { IfOk result (λ ended. SolvedIs (left_sides system.now.rows) (wholes system.now.limits) (wholes form.now) ended.solved) }
+    ensures empty { IfOk result (λ ended. SaysEmpty ended.solved ↔ ((y : List ℚ) → ¬ (IsPoint (length form.now) (left_sides system.now.rows) (wholes system.now.limits) y))) }
+    ensures pivots { IfOk result (λ ended. EndsSo (first_dictionary (left_sides system.now.rows) (wholes system.now.limits) (wholes form.now)) ended.pivots ended.solved) }
     ensures stopped { IfErr result (StopIs (left_sides system.now.rows) (wholes system.now.limits) (wholes form.now)) }
 {
     let rows = system.rows.rows();
@@ -99,8 +106,14 @@ pub fn minimise(alloc: Global, system: &System, form: &Form<Kernel>) -> Result<S
     let mut dict = Dict::of(alloc, system, form)?;
     let mut pivots = Pivots::new(alloc);
     match run(&mut dict, &mut pivots, rows, columns)? {
-        Ending::Stuck { row } => Ok(empty(alloc, &dict, row, rows, columns)?),
-        Ending::Optimal => Ok(least(alloc, &dict, rows, columns)?),
+        Ending::Stuck { row } => {
+            let solved = empty(alloc, &dict, row, rows, columns)?;
+            Ok(Ended { solved, pivots })
+        }
+        Ending::Optimal => {
+            let solved = least(alloc, &dict, rows, columns)?;
+            Ok(Ended { solved, pivots })
+        }
         Ending::Wide { row, column } => Err(LpStop::Excuse(LpExcuse::WidePivot {
             pivots,
             row,
@@ -108,4 +121,19 @@ pub fn minimise(alloc: Global, system: &System, form: &Form<Kernel>) -> Result<S
         })),
         Ending::Many => Err(LpStop::Excuse(LpExcuse::ManyPivots { pivots })),
     }
+}
+
+/// The least value of the form at the rational points of the system, as `minimise_with_pivots` finds it.
+pub fn minimise(alloc: Global, system: &System, form: &Form<Kernel>) -> Result<Solved, LpStop>
+    requires condition { MeetsCondition system.now.rows system.now.limits form.now }
+    requires bounded { IsBounded (length form.now) (left_sides system.now.rows) (wholes system.now.limits) }
+    ensures solved { IfOk result (SolvedIs (left_sides system.now.rows) (wholes system.now.limits) (wholes form.now)) }
+    ensures empty { IfOk result (λ answer. SaysEmpty answer ↔ ((y : List ℚ) → ¬ (IsPoint (length form.now) (left_sides system.now.rows) (wholes system.now.limits) y))) }
+    ensures stopped { IfErr result (StopIs (left_sides system.now.rows) (wholes system.now.limits) (wholes form.now)) }
+{
+    let Ended {
+        solved,
+        pivots: _pivots,
+    } = minimise_with_pivots(alloc, system, form)?;
+    Ok(solved)
 }

@@ -4,8 +4,6 @@ pub mod FixedAsFreeLineLaws
 pub mod FixedAsFreeTextLaws
 pub mod LineKindLaws
 pub mod FieldTextLaws
-pub mod SectionLaws
 pub mod SectionOrderLaws
-pub mod LineFaultLaws
 pub mod FaultRuleLaws
 pub mod JudgingCallLaws

@@ -1,5 +1,4 @@
 -- Laws on the tables of a text: what they keep, section by section, as lines are taken.
-pub mod TableLaws
 pub mod BegunSectionLaws
 pub mod TakenLineLaws
 pub mod FinishedTableLaws
@@ -9,7 +8,6 @@ pub mod SideTableLaws
 pub mod RangeTableLaws
 pub mod SumRangeLaws
 pub mod BoundTableLaws
-pub mod ColumnLineLaws
 pub mod ColumnItemLaws
 pub mod ColumnTableLaws
 pub mod FactorTableLaws

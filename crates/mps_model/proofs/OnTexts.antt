@@ -1,5 +1,4 @@
 -- Laws on whole texts: their one meaning, and its scan by the reader.
 pub mod MeaningLaws
-pub mod TextScanLaws
 pub mod ReaderScanLaws
 pub mod ReaderLineLaws

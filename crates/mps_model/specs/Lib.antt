@@ -30,3 +30,12 @@ pub mod Meaning
 pub mod ReadAnswers
 pub mod FixedAsFree
 pub mod WorkedTexts
+pub mod FirstItemLaws
+pub mod FirstPlaceLaws
+pub mod NameListLaws
+pub mod SectionLaws
+pub mod TableLaws
+pub mod LineFaultLaws
+pub mod TextScanLaws
+pub mod ColumnLineLaws
+pub mod DistinctNameLaws

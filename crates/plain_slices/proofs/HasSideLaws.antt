@@ -12,7 +12,7 @@ use Rattle.plain_slices.specs.declared.side.Side.{Side}
 use Rattle.plain_slices.specs.declared.side.Side.TheVariants.{Upper, Lower}
 use Rattle.plain_slices.specs.Nodes.{IsPathWithin}
 use Rattle.plain_slices.specs.Sides.{side_factor, side_form, side_value, side_number, side_inequality, HasSides}
-use Rattle.plain_slices.proofs.NumberLaws.{number-row_upper, number-row_lower, number-slice_upper, number-slice_lower}
+use Rattle.farkas_rows.specs.NumberLaws.{number-row_upper, number-row_lower, number-slice_upper, number-slice_lower}
 use Rattle.plain_slices.proofs.SideLaws.{length-side_form, span-side_form, side_factor-size, weight_small}
 
 -- a side is no larger than the row's weight

@@ -1,6 +1,5 @@
 pub mod ItemLaws
 pub mod UnitLaws
-pub mod NumberLaws
 pub mod NodeSteps
 pub mod BitLaws
 pub mod BalanceLaws

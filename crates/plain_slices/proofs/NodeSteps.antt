@@ -22,7 +22,7 @@ use Rattle.proof_tree.specs.Trees.{IsOfSize}
 use Rattle.plain_slices.specs.declared.node.Source.{Source}
 use Rattle.plain_slices.specs.Shut.{IsColumn, IsFixedBy, LiesInNarrowed}
 use Rattle.plain_slices.specs.Nodes.{signed_unit, narrowed_at, source_at, box_source, bounds_fixed, source_fixed, IsTight, IsNarrowed}
-use Rattle.plain_slices.proofs.NumberLaws.{number-bound_upper, number-bound_lower, number-slice_upper, number-slice_lower}
+use Rattle.farkas_rows.specs.NumberLaws.{number-bound_upper, number-bound_lower, number-slice_upper, number-slice_lower}
 use Rattle.plain_slices.proofs.UnitLaws.{column-signed, column-unique}
 
 -- ---- the values of one column

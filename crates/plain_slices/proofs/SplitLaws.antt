@@ -27,7 +27,7 @@ use Rattle.plain_slices.specs.Nodes.{narrowed_at, source_at, IsNarrowed, IsOpenB
 use Rattle.plain_slices.specs.Items.{numbers_of, IsPutIn}
 use Rattle.plain_slices.specs.PlainMoves.{IsPlainMove}
 use Rattle.plain_slices.proofs.UnitLaws.{unit-same}
-use Rattle.plain_slices.proofs.NumberLaws.{number-bound_upper, number-bound_lower, number-end}
+use Rattle.farkas_rows.specs.NumberLaws.{number-bound_upper, number-bound_lower, number-end}
 use Rattle.plain_slices.proofs.RefuteLaws.{once, refutes-pair}
 use Rattle.plain_slices.proofs.ShutLaws.{meetable-open}
 

@@ -1,6 +1,6 @@
 -- The two sides of a row that cross refute the root.
-use Rattle.std.proofs.Common.{◌≡◌, ℕ, zero, suc, ◌+◌, ◌*◌, ◌^◌, ◌<◌, ◌≤◌, List, [], ◌∷◌, ◌++◌, length, get_or, ℤ, pos, neg_ℤ, ◌+ℤ◌, ◌*ℤ◌, ◌≤ℤ◌, ◌<ℤ◌, nat_abs, refl, sym, ap, ap₂, subst, subst₂, ◌∙◌, arith}
-use Rattle.std.specs.Prelude.{Option, Some, None, flat_map, option_map, IsSome, unwrap_or, sum_by}
+use Rattle.std.proofs.Common.{◌≡◌, ℕ, zero, suc, ◌+◌, ◌*◌, ◌^◌, ◌<◌, ◌≤◌, List, [], ◌∷◌, length, get_or, ℤ, pos, neg_ℤ, ◌+ℤ◌, ◌*ℤ◌, ◌≤ℤ◌, ◌<ℤ◌, nat_abs, refl, sym, ap, ap₂, subst, subst₂, ◌∙◌, arith}
+use Rattle.std.specs.Prelude.{Option, Some, None, option_map, IsSome, unwrap_or, sum_by}
 use Rattle.std.proofs.lemmas.List.Elements.{All-cons, All-nil, All-get_or}
 use Rattle.std.proofs.lemmas.List.Sums.{sum_by-cons}
 use Rattle.exact_math.specs.GcdLaws.{nat_abs-neg_ℤ}
@@ -12,30 +12,9 @@ use Rattle.whole_rows.specs.WholeRows.{WholeRow, WholeRows, row_at, span, size_o
 use Rattle.whole_rows.specs.WeightLaws.{factor_le_term, weight-row_at}
 use Rattle.farkas_rows.specs.declared.line.Use.{Use}
 use Rattle.farkas_rows.specs.Inequalities.{Inequality, at_most, at_least, inequality_at}
+use Rattle.farkas_rows.specs.NumberLaws.{number-row_upper, number-row_lower}
 use Rattle.presolve_map.specs.Roots.{HaveCrossed, HasCrossingSides, IsRootLine}
 use Rattle.farkas_rows.specs.Refutes.{nothing, weights, inequality_weight, line_of, ComesToNegative, Refutes}
-
--- ---- the numbers of a row's sides
-
-abbrev sides_in : List WholeRow → List (Option Inequality)
-sides_in rows = flat_map (λ (row : WholeRow). option_map (at_most row.factors) row.high ∷ option_map (at_least row.factors) row.low ∷ []) rows
-
-upper-number : (rows : List WholeRow) (rest : List (Option Inequality)) (d : WholeRow) (i k : ℕ) → i < length rows → k ≡ 2 * i → get_or (sides_in rows ++ rest) k None ≡ option_map (at_most (get_or rows i d).factors) (get_or rows i d).high
-upper-number [] rest d i k h e = absurd (omega arith)
-upper-number (row ∷ rows) rest d zero zero h e = refl
-upper-number (row ∷ rows) rest d zero (suc k) h e = absurd (omega arith)
-upper-number (row ∷ rows) rest d (suc i) zero h e = absurd (omega arith)
-upper-number (row ∷ rows) rest d (suc i) (suc zero) h e = absurd (omega arith)
-upper-number (row ∷ rows) rest d (suc i) (suc (suc k)) h e = upper-number rows rest d i k (omega arith) (omega arith)
-
-lower-number : (rows : List WholeRow) (rest : List (Option Inequality)) (d : WholeRow) (i k : ℕ) → i < length rows → k ≡ 2 * i + 1 → get_or (sides_in rows ++ rest) k None ≡ option_map (at_least (get_or rows i d).factors) (get_or rows i d).low
-lower-number [] rest d i k h e = absurd (omega arith)
-lower-number (row ∷ rows) rest d zero zero h e = absurd (omega arith)
-lower-number (row ∷ rows) rest d zero (suc zero) h e = refl
-lower-number (row ∷ rows) rest d zero (suc (suc k)) h e = absurd (omega arith)
-lower-number (row ∷ rows) rest d (suc i) zero h e = absurd (omega arith)
-lower-number (row ∷ rows) rest d (suc i) (suc zero) h e = absurd (omega arith)
-lower-number (row ∷ rows) rest d (suc i) (suc (suc k)) h e = lower-number rows rest d i k (omega arith) (omega arith)
 
 -- ---- what they come to
 
@@ -79,8 +58,8 @@ refutes-crossing rows i low high limits h is_low is_high crosses =
     let d : WholeRow = record { factors = []; low = None; high = None } in
     let dense : length row.factors ≡ length rows.box = All-get_or (λ (r : WholeRow). length r.factors ≡ length rows.box) rows.rows i d h limits.dense in
     let light : weight rows.box row ≤ 2 ^ 96 = weight-row_at rows i limits h in
-    let upper : inequality_at rows [] None (2 * i) ≡ Some (at_most row.factors high) = upper-number rows.rows _ d i (2 * i) h refl ∙ ap (option_map (at_most row.factors)) is_high in
-    let lower : inequality_at rows [] None (2 * i + 1) ≡ Some (at_least row.factors low) = lower-number rows.rows _ d i (2 * i + 1) h refl ∙ ap (option_map (at_least row.factors)) is_low in
+    let upper : inequality_at rows [] None (2 * i) ≡ Some (at_most row.factors high) = number-row_upper rows [] None i h ∙ ap (option_map (at_most row.factors)) is_high in
+    let lower : inequality_at rows [] None (2 * i + 1) ≡ Some (at_least row.factors low) = number-row_lower rows [] None i h ∙ ap (option_map (at_least row.factors)) is_low in
     let first = ap (λ (o : Option Inequality). unwrap_or o nothing) upper in
     let second = ap (λ (o : Option Inequality). unwrap_or o nothing) lower in
     let P : Use → Type 0 = λ (item : Use). IsSome (inequality_at rows [] None item.index) in

@@ -9,3 +9,5 @@ pub mod RootLaws
 pub mod KeptLaws
 pub mod LiftLaws
 pub mod ViolateLaws
+pub mod LineLaws
+pub mod NumberedLaws

@@ -8,3 +8,4 @@ pub mod WorkViews
 pub mod Reducing
 pub mod Roots
 pub mod Presolved
+pub mod LiftedLines

@@ -5,6 +5,7 @@
 mod columns;
 mod laws;
 mod lifting;
+mod line;
 mod outcome;
 mod placing;
 mod presolving;
@@ -15,6 +16,7 @@ mod work_rows;
 
 pub use laws::needed_row_is_violated_within_the_box;
 pub use lifting::lift_form;
+pub use line::{WorkTimes, lift_line};
 pub use outcome::Presolved;
 pub use presolving::presolve;
 pub use work_rows::WorkRows;

@@ -1,5 +1,7 @@
 //! Small roots, with what is left of them found by hand.
-use crate::{Presolved, presolve};
+use crate::{Presolved, WorkTimes, lift_line, presolve};
+use farkas_rows::OriginalTimes;
+use frac128::Frac;
 use sequence::NoMemory;
 use std::alloc::Global;
 use std::test::Fail;
@@ -58,5 +60,25 @@ fn roots_are_closed(rt: HostRuntime) -> Result<(), Fail> {
     assert!(rt; matches!(presolve(rt.alloc(), &out_of_reach)?, Presolved::Closed(_)));
     let empty = root(rt.alloc(), column, column, 5, 4)?;
     assert!(rt; matches!(presolve(rt.alloc(), &empty)?, Presolved::Closed(_)));
+    Ok(())
+}
+
+#[test]
+fn a_bound_takes_the_sum_of_a_removed_column(rt: HostRuntime) -> Result<(), Fail> {
+    let rows = root(
+        rt.alloc(),
+        Bounds { low: 1, high: 1 },
+        Bounds { low: 0, high: 3 },
+        8,
+        8,
+    )?;
+    let times = WorkTimes {
+        cut: Frac::whole(1),
+        items: OriginalTimes::new(rt.alloc()),
+    };
+    let line = lift_line(rt.alloc(), &rows, &times)?;
+    assert_eq!(rt; line.items().len(), 1);
+    assert_eq!(rt; line.items()[0].index, 3);
+    assert_eq!(rt; line.items()[0].times, Frac::whole(2));
     Ok(())
 }

@@ -24,9 +24,9 @@ use Rattle.mps_model.specs.Meaning.{fault_on, first_line_fault, judged_lines, fi
 use Rattle.mps_model.specs.FixedAsFree.{has_whole_fields, ends_with_its_fields, has_second_field, ReadsFree}
 use Rattle.mps_model.specs.AddedLines.{with_row, with_column, with_side, with_range, with_bound, with_line}
 use Rattle.mps_model.proofs.OnLines.LineKindLaws.{content_is_data}
-use Rattle.mps_model.proofs.OnTexts.TextScanLaws.{nothing_first, none_first, none_later, first_later, first_of_none}
-use Rattle.mps_model.proofs.OnTables.TableLaws.{HasOpenLast, open_none, table_has, tables_silent, tables_section, tables_line}
-use Rattle.mps_model.proofs.OnLines.LineFaultLaws.{is_long, by_rules, data_rule, fault_by_rules, open_more}
+use Rattle.mps_model.specs.TextScanLaws.{nothing_first, none_first, none_later, first_later, first_of_none}
+use Rattle.mps_model.specs.TableLaws.{HasOpenLast, open_none, table_has, tables_silent, tables_section, tables_line}
+use Rattle.mps_model.specs.LineFaultLaws.{is_long, by_rules, data_rule, fault_by_rules, open_more}
 use Rattle.mps_model.proofs.OnLines.FixedAsFreeFieldLaws.{fields_agree}
 use Rattle.mps_model.proofs.OnLines.FixedAsFreeLineLaws.{SameIn, ReadsSame, data_reads}
 

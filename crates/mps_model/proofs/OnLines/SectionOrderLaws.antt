@@ -12,8 +12,8 @@ use Rattle.mps_model.specs.declared.lines.section.Section.TheVariants.{Name as N
 use Rattle.mps_model.specs.declared.lines.section_order.Order.{Order}
 use Rattle.mps_model.specs.SectionOrder.{may_come, is_same, is_in_order}
 use Rattle.mps_model.specs.KeptSectionOrder.{are_in_order, KeepsOrder}
-use Rattle.mps_model.proofs.OnLines.SectionLaws.{same_section, is_same_itself}
-use Rattle.mps_model.proofs.OnLists.FirstItemLaws.{last_or-push}
+use Rattle.mps_model.specs.SectionLaws.{same_section, is_same_itself}
+use Rattle.mps_model.specs.FirstItemLaws.{last_or-push}
 
 -- how far down a section stands
 abbrev pub rank : Option Section → ℕ

@@ -16,7 +16,7 @@ use Rattle.mps_model.specs.ColumnTables.{is_stated_row}
 use Rattle.mps_model.specs.FactorTables.{factors_of}
 use Rattle.mps_model.specs.KeptTables.{HaveItems}
 use Rattle.mps_model.specs.ModelLimits.{KeepsLimits}
-use Rattle.mps_model.proofs.OnLists.FirstPlaceLaws.{same_bytes, bytes_same, is_first, find_first, find_none}
+use Rattle.mps_model.specs.FirstPlaceLaws.{same_bytes, bytes_same, is_first, find_first, find_none}
 use Rattle.mps_model.proofs.OnModel.ModelLimitLaws.{stated_keeps_limits}
 
 -- ---- the objective among the rows

@@ -13,7 +13,7 @@ use Rattle.mps_model.specs.Bounds.{column_names, lower_of, upper_of, is_integer}
 use Rattle.mps_model.specs.StatedModel.{model_lines}
 use Rattle.mps_model.specs.FaultRules.{first_holding}
 use Rattle.mps_model.specs.Meaning.{fault_on, first_line_fault, judged_lines, column_kind, first_line_of, column_fault_at, first_column_fault, whole_fault, fault_at, is_settled, are_settled}
-use Rattle.mps_model.proofs.OnTexts.TextScanLaws.{nothing_first, unmapped}
+use Rattle.mps_model.specs.TextScanLaws.{nothing_first, unmapped}
 
 -- ---- over plain variables
 

@@ -16,8 +16,8 @@ use Rattle.mps_model.specs.Sides.{sided_rows, objective_row}
 use Rattle.mps_model.specs.Bounds.{column_names}
 use Rattle.mps_model.specs.StatedModel.{factor_at, item_with, item_at, items_of, objective_items, stated_row, stated_column, stated}
 use Rattle.mps_model.specs.ModelLimits.{KeepsLimits}
-use Rattle.mps_model.proofs.OnLists.FirstPlaceLaws.{bytes_same, bytes_flip}
-use Rattle.mps_model.proofs.OnLists.DistinctNameLaws.{column_names_distinct}
+use Rattle.mps_model.specs.FirstPlaceLaws.{bytes_same, bytes_flip}
+use Rattle.mps_model.specs.DistinctNameLaws.{column_names_distinct}
 
 -- ---- the place of a name is its number, where names are distinct
 

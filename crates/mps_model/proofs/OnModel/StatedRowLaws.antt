@@ -14,8 +14,8 @@ use Rattle.mps_model.specs.RowFaults.{row_names}
 use Rattle.mps_model.specs.declared.tables.row_kind.RowKind.{RowKind}
 use Rattle.mps_model.specs.RowKinds.{letter_of, row_of}
 use Rattle.mps_model.specs.ColumnTables.{is_stated_row}
-use Rattle.mps_model.proofs.OnLists.FirstPlaceLaws.{bytes_same}
-use Rattle.mps_model.proofs.OnLists.DistinctNameLaws.{apart}
+use Rattle.mps_model.specs.FirstPlaceLaws.{bytes_same}
+use Rattle.mps_model.specs.DistinctNameLaws.{apart}
 
 -- two places of distinct names have one name exactly where they are one
 same_place : (names : List (List ℕ)) (i j : ℕ) → IsDistinct bytes_eq names → i < length names → j < length names

@@ -20,7 +20,7 @@ use Rattle.mps_model.specs.KeptColumns.{KeepsColumns}
 use Rattle.mps_model.specs.KeptSides.{KeepsPairs, KeepsRanges}
 use Rattle.mps_model.specs.KeptBounds.{KeepsBounds}
 use Rattle.mps_model.specs.KeptSections.{KeptFrom, HasNoSides, HasNoRanges, HasNoBounds, KeepsSections}
-use Rattle.mps_model.proofs.OnLines.LineFaultLaws.{not_there}
+use Rattle.mps_model.specs.LineFaultLaws.{not_there}
 use Rattle.mps_model.proofs.OnLines.SectionOrderLaws.{came-push, or_true, or_false}
 use Rattle.mps_model.proofs.OnTables.TakenLineLaws.{no_table, no_sides, no_ranges, no_bounds}
 

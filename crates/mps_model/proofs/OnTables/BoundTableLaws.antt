@@ -30,8 +30,8 @@ use Rattle.mps_model.specs.PairFaults.{is_second_set}
 use Rattle.mps_model.specs.ColumnFaults.{is_known_column, bound_line_fault}
 use Rattle.mps_model.specs.Judging.{Judges, kind_of}
 use Rattle.mps_model.specs.KeptBounds.{said_of, nothing_said, with_entry, first_set, KeepsBounds}
-use Rattle.mps_model.proofs.OnLists.DistinctNameLaws.{apart, position-none, position-some}
-use Rattle.mps_model.proofs.OnLists.FirstPlaceLaws.{same_bytes}
+use Rattle.mps_model.specs.DistinctNameLaws.{apart, position-none, position-some}
+use Rattle.mps_model.specs.FirstPlaceLaws.{same_bytes}
 
 -- ---- over plain lists
 

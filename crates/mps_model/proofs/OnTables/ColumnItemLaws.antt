@@ -18,12 +18,12 @@ use Rattle.mps_model.specs.StatedModel.{item_with, items_of}
 use Rattle.mps_model.specs.FaultRules.{is_among}
 use Rattle.mps_model.specs.PairFaults.{pair_names}
 use Rattle.mps_model.specs.ColumnTables.{columns_alone, last_beside, bare_line, with_pair}
-use Rattle.mps_model.proofs.OnLists.NameListLaws.{distinct_last, all_among, filter_map_same, filter_same, position-known, position_fresh, position_within, last_of-push, among_differs}
+use Rattle.mps_model.specs.NameListLaws.{distinct_last, all_among, filter_map_same, filter_same, position-known, position_fresh, position_within, last_of-push, among_differs}
 use Rattle.mps_model.specs.KeptSides.{names_in}
-use Rattle.mps_model.proofs.OnLists.FirstPlaceLaws.{bytes_same, bytes_flip}
-use Rattle.mps_model.proofs.OnLists.DistinctNameLaws.{column_names_distinct}
+use Rattle.mps_model.specs.FirstPlaceLaws.{bytes_same, bytes_flip}
+use Rattle.mps_model.specs.DistinctNameLaws.{column_names_distinct}
 use Rattle.mps_model.proofs.OnTables.PairLaws.{none_from, beside_new, beside_other, beside_found}
-use Rattle.mps_model.proofs.OnTables.ColumnLineLaws.{lines_of_column-entries, lines_of_column-marker, column_names-marker, column_names_fresh, column_names_known, column_names_same, lines_of_column_none}
+use Rattle.mps_model.specs.ColumnLineLaws.{lines_of_column-entries, lines_of_column-marker, column_names-marker, column_names_fresh, column_names_known, column_names_same, lines_of_column_none}
 
 -- ---- over any columns and their pairs
 

@@ -17,7 +17,7 @@ use Rattle.mps_model.specs.Judging.{Judges}
 use Rattle.mps_model.specs.ColumnTables.{bare_line, with_pair, label_fault}
 use Rattle.mps_model.specs.KeptColumns.{KeepsColumns}
 use Rattle.mps_model.specs.KeptSides.{names_in}
-use Rattle.mps_model.proofs.OnLists.FirstPlaceLaws.{bytes_same}
+use Rattle.mps_model.specs.FirstPlaceLaws.{bytes_same}
 use Rattle.mps_model.proofs.OnTables.PairLaws.{or_none}
 use Rattle.mps_model.proofs.OnTables.ColumnItemLaws.{names_in-push, pairs_at, pairs_at-bare, pairs_at-with_pair, lines_to}
 use Rattle.mps_model.proofs.OnTables.FactorTableLaws.{rules_on}

@@ -20,10 +20,10 @@ use Rattle.mps_model.specs.ColumnFaults.{is_due_word, goes_on, marker_fault}
 use Rattle.mps_model.specs.ColumnTables.{columns_alone, column_before, is_stated_row, bare_line, with_pair, label_fault, IsLastColumn}
 use Rattle.mps_model.specs.FactorTables.{factors_of, KeepsFactors}
 use Rattle.mps_model.specs.KeptColumns.{start_of, KeepsColumns}
-use Rattle.mps_model.proofs.OnLists.NameListLaws.{all_among, map_same, last_of-push}
-use Rattle.mps_model.proofs.OnLists.FirstPlaceLaws.{bytes_same, bytes_flip, same_bytes}
-use Rattle.mps_model.proofs.OnTables.ColumnLineLaws.{column_names-marker, column_names_fresh, column_names_known, first_line_of_known, first_line_of_fresh, first_line_of-marker, is_open-entries, is_open-marker, is_between_known, is_between_fresh, column_before-marker, column_before-entries}
-use Rattle.mps_model.proofs.OnLists.DistinctNameLaws.{position-some}
+use Rattle.mps_model.specs.NameListLaws.{all_among, map_same, last_of-push}
+use Rattle.mps_model.specs.FirstPlaceLaws.{bytes_same, bytes_flip, same_bytes}
+use Rattle.mps_model.specs.ColumnLineLaws.{column_names-marker, column_names_fresh, column_names_known, first_line_of_known, first_line_of_fresh, first_line_of-marker, is_open-entries, is_open-marker, is_between_known, is_between_fresh, column_before-marker, column_before-entries}
+use Rattle.mps_model.specs.DistinctNameLaws.{position-some}
 use Rattle.mps_model.proofs.OnTables.ColumnItemLaws.{lines_to, items_of-marker, last_beside-marker, items_of-bare, last_beside-bare, column_names-with_pair}
 use Rattle.mps_model.proofs.OnTables.FactorTableLaws.{same_factors}
 

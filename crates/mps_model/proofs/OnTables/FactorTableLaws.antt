@@ -25,9 +25,9 @@ use Rattle.mps_model.specs.PairFaults.{pair_names, pair_fault}
 use Rattle.mps_model.specs.Judging.{kind_of}
 use Rattle.mps_model.specs.ColumnTables.{columns_alone, last_beside, is_stated_row, with_pair, IsLastColumn}
 use Rattle.mps_model.specs.FactorTables.{factors_of}
-use Rattle.mps_model.proofs.OnLists.NameListLaws.{map_changed}
-use Rattle.mps_model.proofs.OnLists.FirstPlaceLaws.{bytes_flip, same_bytes}
-use Rattle.mps_model.proofs.OnLists.DistinctNameLaws.{position-none, position-some}
+use Rattle.mps_model.specs.NameListLaws.{map_changed}
+use Rattle.mps_model.specs.FirstPlaceLaws.{bytes_flip, same_bytes}
+use Rattle.mps_model.specs.DistinctNameLaws.{position-none, position-some}
 use Rattle.mps_model.proofs.OnTables.ColumnItemLaws.{nothing_chosen, lines_to, taken_here, not_taken_here, items_of-other, last_beside-other, items_of-more, last_beside-more}
 
 -- ---- the rules on a pair

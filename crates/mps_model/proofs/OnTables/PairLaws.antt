@@ -16,8 +16,8 @@ use Rattle.mps_model.specs.RowFaults.{row_names}
 use Rattle.mps_model.specs.PairFaults.{pair_fault}
 use Rattle.mps_model.specs.KeptSides.{number_in, names_in, padded, KeepsPairs}
 use Rattle.mps_model.proofs.OnLines.FaultRuleLaws.{last_rule}
-use Rattle.mps_model.proofs.OnLists.FirstPlaceLaws.{bytes_same, bytes_flip, IsFirst, name_at}
-use Rattle.mps_model.proofs.OnLists.NameListLaws.{map_at}
+use Rattle.mps_model.specs.FirstPlaceLaws.{bytes_same, bytes_flip, IsFirst, name_at}
+use Rattle.mps_model.specs.NameListLaws.{map_at}
 
 -- ---- the number beside a name
 

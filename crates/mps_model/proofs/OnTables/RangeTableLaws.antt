@@ -24,8 +24,8 @@ use Rattle.mps_model.specs.KeptSides.{number_in, names_in, padded, range_end, en
 use Rattle.mps_model.proofs.OnLines.FaultRuleLaws.{last_rule}
 use Rattle.mps_model.proofs.OnTables.SumRangeLaws.{sum_fits_decides}
 use Rattle.mps_model.proofs.OnTables.RowTableLaws.{free_is_not_sided}
-use Rattle.mps_model.proofs.OnLists.FirstPlaceLaws.{IsFirst, bytes_flip, name_at, said}
-use Rattle.mps_model.proofs.OnLists.NameListLaws.{map_changed}
+use Rattle.mps_model.specs.FirstPlaceLaws.{IsFirst, bytes_flip, name_at, said}
+use Rattle.mps_model.specs.NameListLaws.{map_changed}
 use Rattle.mps_model.proofs.OnTables.PairLaws.{none_from, beside_new, beside_other, beside_found, number_at_place, padding_tells_nothing, kept_number}
 use Rattle.mps_model.proofs.OnTables.SideTableLaws.{AsksOfName, full, none_kept, label_kept, pairs_push}
 

@@ -18,8 +18,8 @@ use Rattle.mps_model.specs.Sides.{is_free_row, has_sides, sided_rows}
 use Rattle.mps_model.specs.FaultRules.{first_holding, is_among}
 use Rattle.mps_model.specs.RowFaults.{row_names, row_fault}
 use Rattle.mps_model.specs.RowKinds.{letter_of, row_kinds, row_kind_of, row_of, rows_of, IsRowTable}
-use Rattle.mps_model.proofs.OnLists.FirstItemLaws.{find_passes}
-use Rattle.mps_model.proofs.OnLists.FirstPlaceLaws.{said}
+use Rattle.mps_model.specs.FirstItemLaws.{find_passes}
+use Rattle.mps_model.specs.FirstPlaceLaws.{said}
 use Rattle.mps_model.proofs.OnLines.FaultRuleLaws.{rule_holds, rule_passes}
 
 -- ---- rows by their kinds and names

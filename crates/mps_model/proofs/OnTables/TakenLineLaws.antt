@@ -31,9 +31,9 @@ use Rattle.mps_model.specs.KeptColumns.{KeepsColumns}
 use Rattle.mps_model.specs.KeptSides.{KeepsPairs, KeepsRanges}
 use Rattle.mps_model.specs.KeptBounds.{KeepsBounds}
 use Rattle.mps_model.specs.KeptSections.{KeptFrom, HasNoSides, HasNoRanges, HasNoBounds, KeepsSections}
-use Rattle.mps_model.proofs.OnLists.FirstItemLaws.{after_none}
+use Rattle.mps_model.specs.FirstItemLaws.{after_none}
 use Rattle.mps_model.proofs.OnLines.JudgingCallLaws.{judges_like}
-use Rattle.mps_model.proofs.OnLines.SectionLaws.{begun}
+use Rattle.mps_model.specs.SectionLaws.{begun}
 use Rattle.mps_model.proofs.OnLines.SectionOrderLaws.{last_among, not_yet}
 
 -- a word of the code

@@ -23,10 +23,10 @@ use Rattle.mps_model.specs.KeptSectionOrder.{KeepsOrder}
 use Rattle.mps_model.specs.KeptSections.{KeepsSections}
 use Rattle.mps_model.specs.KeptLines.{Keeps}
 use Rattle.mps_model.proofs.OnLines.FaultRuleLaws.{rule_passes, last_rule}
-use Rattle.mps_model.proofs.OnLines.SectionLaws.{sections_still, sections_more, silent_begins_none}
-use Rattle.mps_model.proofs.OnTables.TableLaws.{tables_silent, tables_section, tables_line}
-use Rattle.mps_model.proofs.OnLines.LineFaultLaws.{is_long, has_plain_bytes, data_line, faultless_open}
-use Rattle.mps_model.proofs.OnTexts.TextScanLaws.{faultless_more}
+use Rattle.mps_model.specs.SectionLaws.{sections_still, sections_more, silent_begins_none}
+use Rattle.mps_model.specs.TableLaws.{tables_silent, tables_section, tables_line}
+use Rattle.mps_model.specs.LineFaultLaws.{is_long, has_plain_bytes, data_line, faultless_open}
+use Rattle.mps_model.specs.TextScanLaws.{faultless_more}
 use Rattle.mps_model.proofs.OnLines.LineKindLaws.{section_keeps_columns}
 use Rattle.mps_model.proofs.OnLines.JudgingCallLaws.{judges_like}
 

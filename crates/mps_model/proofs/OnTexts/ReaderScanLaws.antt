@@ -29,10 +29,10 @@ use Rattle.mps_model.specs.Judging.{Judges}
 use Rattle.mps_model.specs.ReadAnswers.{Answers, stop_on}
 use Rattle.mps_model.specs.KeptLines.{Keeps}
 use Rattle.mps_model.specs.KeptSections.{IsBuildable}
-use Rattle.mps_model.proofs.OnLines.SectionLaws.{same_section, begins_at, sections_none, any_at}
-use Rattle.mps_model.proofs.OnTables.TableLaws.{last_section, tables_section}
+use Rattle.mps_model.specs.SectionLaws.{same_section, begins_at, sections_none, any_at}
+use Rattle.mps_model.specs.TableLaws.{last_section, tables_section}
 use Rattle.mps_model.proofs.OnLines.SectionOrderLaws.{last_among, columns_came}
-use Rattle.mps_model.proofs.OnTexts.TextScanLaws.{IsScanned, scan_none, scan_more, fault_found, end_found, no_end_found, fault_is_meaning}
+use Rattle.mps_model.specs.TextScanLaws.{IsScanned, scan_none, scan_more, fault_found, end_found, no_end_found, fault_is_meaning}
 use Rattle.mps_model.proofs.OnTables.FinishedTableLaws.{kept_buildable}
 
 -- the number of a line among numbered lines

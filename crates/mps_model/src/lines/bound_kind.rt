@@ -7,7 +7,7 @@ use frac128::Frac;
 
 /// What a line of BOUNDS makes of its column, by its two letters.
 #[derive(Clone, Copy, Debug, PartialEq, Eq)]
-pub(crate) enum BoundKind {
+pub enum BoundKind {
     /// A lower bound.
     Lo,
     /// An upper bound.

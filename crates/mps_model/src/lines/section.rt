@@ -4,7 +4,7 @@ ghost use Rattle.mps_model.specs.Sections.{all_sections, word_of};
 
 /// A section of a model text, by the word that begins it.
 #[derive(Clone, Copy, Debug, PartialEq, Eq)]
-pub(crate) enum Section {
+pub enum Section {
     Name,
     Rows,
     Columns,

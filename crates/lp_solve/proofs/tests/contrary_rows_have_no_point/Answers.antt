@@ -1,4 +1,3 @@
-use Rattle.std.proofs.Common.{◌≡◌, pos, [], ◌∷◌, rules}
 use Rattle.lp_solve.proofs.WorkedSystems.{condition_from, bounded_from}
 use Rattle.lp_solve.proofs.tests.contrary_rows_have_no_point.Goals as goal
 

@@ -2,7 +2,8 @@ use Rattle.std.proofs.Common.{◌≡◌, length, arith}
 use Rattle.std.proofs.lemmas.List.{length-map}
 use Rattle.farkas_rows.specs.declared.line.Use.{Use}
 use Rattle.plain_slices.specs.Items.{numbers_of}
-use Rattle.plain_slices.proofs.ItemLaws.{numbers_of-insert, rising-insert}
+use Rattle.farkas_rows.specs.RisingNumbers.{rising-insert}
+use Rattle.plain_slices.proofs.ItemLaws.{numbers_of-insert}
 use Rattle.plain_slices.proofs.items.put.Goals as goal
 
 pub returns-clause-rising : goal.returns-clause-rising

@@ -1,5 +1,5 @@
 use Rattle.std.proofs.Common.{[]}
-use Rattle.mps_model.proofs.OnTexts.TextScanLaws.{first_of_none}
+use Rattle.mps_model.specs.TextScanLaws.{first_of_none}
 use Rattle.mps_model.proofs.reader.Reader.new.Goals as goal
 
 pub returns : goal.returns

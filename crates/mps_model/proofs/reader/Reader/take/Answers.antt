@@ -1,7 +1,7 @@
 use Rattle.std.proofs.Common.{sym, refl, ◌∙◌}
 use Rattle.mps_fields.specs.LineViews.{line_view}
 use Rattle.mps_model.proofs.OnLines.LineKindLaws.{content_is_data}
-use Rattle.mps_model.proofs.OnLines.LineFaultLaws.{long_line, silent_line, byte_line, section_line}
+use Rattle.mps_model.specs.LineFaultLaws.{long_line, silent_line, byte_line, section_line}
 use Rattle.mps_model.proofs.OnTexts.ReaderLineLaws.{too_long, not_too_long, other_byte, plain_section, plain_data, out_of_columns, keeps_silence, data_judged}
 use Rattle.mps_model.proofs.reader.Reader.take.Goals as goal
 

@@ -4,7 +4,7 @@ use Rattle.std.proofs.lemmas.Option.{slice_get-map}
 use Rattle.exact_math.specs.Rational.{neg_ℚ}
 use Rattle.mps_model.specs.Sides.{zero_ℚ, is_free_row, objective_row, constant_of}
 use Rattle.mps_model.specs.RowFaults.{row_names}
-use Rattle.mps_model.proofs.OnLists.FirstPlaceLaws.{is_first, find_first, first_there, find_none}
+use Rattle.mps_model.specs.FirstPlaceLaws.{is_first, find_first, first_there, find_none}
 use Rattle.mps_model.proofs.OnTables.PairLaws.{kept_number}
 use Rattle.mps_model.proofs.tables.sides.constant_of.Goals as goal
 

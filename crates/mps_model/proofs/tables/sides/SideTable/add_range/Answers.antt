@@ -10,7 +10,7 @@ use Rattle.mps_model.specs.PairFaults.{row_named, range_fault}
 use Rattle.mps_model.specs.DataLineViews.{pair_view}
 use Rattle.mps_model.specs.KeptSides.{number_in, names_in}
 use Rattle.mps_model.proofs.OnLines.JudgingCallLaws.{judges_like}
-use Rattle.mps_model.proofs.OnLists.FirstPlaceLaws.{IsFirst, is_first, row_found}
+use Rattle.mps_model.specs.FirstPlaceLaws.{IsFirst, is_first, row_found}
 use Rattle.mps_model.proofs.OnTables.PairLaws.{not_chosen}
 use Rattle.mps_model.proofs.OnTables.SumRangeLaws.{sum_fits_decides}
 use Rattle.mps_model.proofs.OnTables.RangeTableLaws.{range_on_free, range_no_number, range_too_wide, range_left, wide_sum, side_found, end_taken, end_put}

@@ -5,7 +5,7 @@ use Rattle.mps_model.specs.PairFaults.{pair_fault}
 use Rattle.mps_model.specs.DataLineViews.{pair_view}
 use Rattle.mps_model.specs.KeptSides.{number_in, names_in}
 use Rattle.mps_model.proofs.OnLines.JudgingCallLaws.{judges_like}
-use Rattle.mps_model.proofs.OnLists.FirstPlaceLaws.{is_first}
+use Rattle.mps_model.specs.FirstPlaceLaws.{is_first}
 use Rattle.mps_model.proofs.OnTables.PairLaws.{not_chosen, place_taken, pair_put, pair_left}
 use Rattle.mps_model.proofs.tables.sides.SideTable.add_side.Goals as goal
 

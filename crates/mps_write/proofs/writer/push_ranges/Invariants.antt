@@ -1,0 +1,7 @@
+use Rattle.std.proofs.Common.{◌≡◌, ◌++◌, take, map}
+use Rattle.mps_write.specs.CanonicalText.{in_lines, data_line, unlabelled, range_pairs}
+use Rattle.mps_write.proofs.writer.push_ranges.Given as goal
+
+-- the lines so far stand behind the text
+abbrev pub invariant-loop-row : goal.invariant-loop-row
+invariant-loop-row l = l.text.items ≡ l.initial.text.items ++ in_lines (map data_line (map unlabelled (range_pairs (take l.row-index l.rows))))

@@ -1,0 +1,3 @@
+pub mod PlainModels
+pub mod CanonicalText
+pub mod Markets
