@@ -1,0 +1,2 @@
+pub mod VectorSteps
+pub mod ChartLaws

@@ -1,3 +1,5 @@
 pub mod Substitutions
+pub mod Charts
 pub mod Solutions
+pub mod Framing
 pub mod Frames
