@@ -2,3 +2,4 @@ pub mod Numbers
 pub mod Reductions
 pub mod States
 pub mod Stops
+pub mod Beside

@@ -1,6 +1,7 @@
 //! Lattice reduction in whole numbers: a basis, its reduced basis, and the pair between them.
 #![tactic(auto)]
 
+mod beside;
 mod conditions;
 mod exchange;
 mod lattice;
@@ -9,4 +10,5 @@ mod reduction;
 #[cfg(test)]
 mod tests;
 
+pub use beside::{ReducedBeside, reduce_beside};
 pub use lattice::{ReduceExcuse, ReduceStop, Reduced, reduce};
