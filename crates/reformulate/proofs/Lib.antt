@@ -1,2 +1,4 @@
 pub mod VectorSteps
 pub mod ChartLaws
+pub mod PairWays
+pub mod MatrixSteps

@@ -3,6 +3,7 @@
 
 mod equality;
 mod frame;
+mod matrices;
 
 pub use equality::{Equalities, Equality};
 pub use frame::Frame;
