@@ -2,3 +2,4 @@ pub mod VectorSteps
 pub mod ChartLaws
 pub mod PairWays
 pub mod MatrixSteps
+pub mod BasisSteps

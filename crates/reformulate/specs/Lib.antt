@@ -1,4 +1,5 @@
 pub mod Substitutions
+pub mod Bases
 pub mod Charts
 pub mod Solutions
 pub mod Framing

@@ -1,6 +1,7 @@
 //! Integer solutions of linear equalities, as the whole points of a space of their own dimension.
 #![tactic(auto)]
 
+mod basis;
 mod equality;
 mod frame;
 mod matrices;
