@@ -3,3 +3,4 @@ pub mod ChartLaws
 pub mod PairWays
 pub mod MatrixSteps
 pub mod BasisSteps
+pub mod GatherSteps

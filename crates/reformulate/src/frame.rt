@@ -1,6 +1,6 @@
 //! Frames of equalities.
 ghost use Rattle.std.specs.Prelude.{◌≡◌};
-ghost use Rattle.reformulate.specs.Substitutions.{dimension_of, IsShaped};
+ghost use Rattle.reformulate.specs.Substitutions.{dimension_of, IsShaped, IsSubstitution};
 
 use spaces::{Affine, Grid, Kernel, Work};
 use std::marker::Model;
@@ -16,7 +16,7 @@ pub struct Frame {
 }
 
 impl Model for Frame {
-    ghost use Rattle.reformulate.specs.Substitutions.{Substitution, substitution_code, IsShaped};
+    ghost use Rattle.reformulate.specs.Substitutions.{Substitution, substitution_code, IsSubstitution};
 
     ghost Value = { Substitution };
 
@@ -24,7 +24,7 @@ impl Model for Frame {
 
     ghost view = { λ frame. record { to_work = frame.to_work; back = frame.back } };
 
-    ghost invariant = { λ frame. IsShaped (record { to_work = frame.to_work; back = frame.back }) };
+    ghost invariant = { λ frame. IsSubstitution (record { to_work = frame.to_work; back = frame.back }) };
 }
 
 impl Frame {

@@ -4,7 +4,11 @@
 mod basis;
 mod equality;
 mod frame;
+mod gathering;
+mod halt;
 mod matrices;
+mod outcome;
 
 pub use equality::{Equalities, Equality};
 pub use frame::Frame;
+pub use outcome::{FrameExcuse, FrameStop};
