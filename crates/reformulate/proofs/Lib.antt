@@ -4,3 +4,4 @@ pub mod PairWays
 pub mod MatrixSteps
 pub mod BasisSteps
 pub mod GatherSteps
+pub mod FrameLaws
