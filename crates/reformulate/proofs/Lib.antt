@@ -5,3 +5,4 @@ pub mod MatrixSteps
 pub mod BasisSteps
 pub mod GatherSteps
 pub mod FrameLaws
+pub mod ProductSteps

@@ -9,6 +9,8 @@ mod halt;
 mod matrices;
 mod outcome;
 
+mod products;
+
 pub use equality::{Equalities, Equality};
 pub use frame::Frame;
 pub use outcome::{FrameExcuse, FrameStop};
