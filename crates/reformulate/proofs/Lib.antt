@@ -6,3 +6,4 @@ pub mod BasisSteps
 pub mod GatherSteps
 pub mod FrameLaws
 pub mod ProductSteps
+pub mod ReducingSteps

@@ -8,8 +8,8 @@ mod gathering;
 mod halt;
 mod matrices;
 mod outcome;
-
 mod products;
+mod reducing;
 
 pub use equality::{Equalities, Equality};
 pub use frame::Frame;
