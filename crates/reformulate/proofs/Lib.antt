@@ -7,3 +7,4 @@ pub mod GatherSteps
 pub mod FrameLaws
 pub mod ProductSteps
 pub mod ReducingSteps
+pub mod QuotientSteps

@@ -2,6 +2,7 @@ pub mod Substitutions
 pub mod Bases
 pub mod Charts
 pub mod Halts
+pub mod Quotients
 pub mod Solutions
 pub mod Framing
 pub mod Excuses

@@ -9,6 +9,7 @@ mod halt;
 mod matrices;
 mod outcome;
 mod products;
+mod quotient;
 mod reducing;
 
 pub use equality::{Equalities, Equality};
