@@ -3,6 +3,7 @@ pub mod Bases
 pub mod Charts
 pub mod Halts
 pub mod Quotients
+pub mod Settling
 pub mod Solutions
 pub mod Framing
 pub mod Excuses

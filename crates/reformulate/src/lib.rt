@@ -11,6 +11,7 @@ mod outcome;
 mod products;
 mod quotient;
 mod reducing;
+mod taking;
 
 pub use equality::{Equalities, Equality};
 pub use frame::Frame;
