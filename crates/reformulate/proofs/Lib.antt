@@ -8,3 +8,4 @@ pub mod FrameLaws
 pub mod ProductSteps
 pub mod ReducingSteps
 pub mod QuotientSteps
+pub mod TakingSteps
