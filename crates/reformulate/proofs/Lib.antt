@@ -9,3 +9,5 @@ pub mod ProductSteps
 pub mod ReducingSteps
 pub mod QuotientSteps
 pub mod TakingSteps
+pub mod UnitBasis
+pub mod FramingSteps

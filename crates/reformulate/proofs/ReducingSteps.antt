@@ -183,7 +183,7 @@ module _ (base : List ℤ) (back lines vectors basis turned new_lines new_back :
         inverse = λ y f. kept.inverse y (f ∙ width);
       }
 
-  pub is_reduction : (s : Substitution) → s ≡ record { to_work = record { base = last; lines = new_lines }; back = new_back } → IsReductionOf (record { base = base; pair = matrices_in back lines }) s
-  is_reduction s is =
+  pub is_reduction : ((y : List ℤ) → length y ≡ lines.width → times_vector integers (rows_in back) (times_vector integers (rows_in lines) y) ≡ y) → (s : Substitution) → s ≡ record { to_work = record { base = last; lines = new_lines }; back = new_back } → IsReductionOf (record { base = base; pair = matrices_in back lines }) s
+  is_reduction inverse s is =
       subst (IsReductionOf from) (sym is)
-      (record { steps = steps; reduces = reduces_to; columns = made.height ∙ a.width ∙ v.width ∙ sym e; dimension = made.width ∙ a.height ∙ v.height ∙ sym count })
+      (record { steps = steps; reduces = reduces_to; shaped = is_substitution inverse; columns = made.height ∙ a.width ∙ v.width ∙ sym e; dimension = made.width ∙ a.height ∙ v.height ∙ sym count })

@@ -4,6 +4,7 @@
 mod basis;
 mod equality;
 mod frame;
+mod framing;
 mod gathering;
 mod halt;
 mod matrices;
@@ -15,4 +16,4 @@ mod taking;
 
 pub use equality::{Equalities, Equality};
 pub use frame::Frame;
-pub use outcome::{FrameExcuse, FrameStop};
+pub use outcome::{FrameExcuse, FrameStop, Framed};

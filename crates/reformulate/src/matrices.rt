@@ -9,8 +9,11 @@ use sequence::NoMemory;
 use spaces::{Grid, Space};
 use std::alloc::Global;
 
-/// The same matrix again.
-pub(crate) fn copied<S: Space>(alloc: Global, grid: &Grid<S, i128>) -> Result<Grid<S, i128>, NoMemory>
+/// The same matrix again, in this or another space.
+pub(crate) fn copied<S: Space, T: Space>(
+    alloc: Global,
+    grid: &Grid<S, i128>,
+) -> Result<Grid<T, i128>, NoMemory>
     ensures height { IfOk result (λ copy. copy.rows ≡ grid.now.rows) }
     ensures width { IfOk result (λ copy. copy.width ≡ grid.now.width) }
     ensures size { IfOk result (λ copy. length copy.items ≡ copy.rows * copy.width) }

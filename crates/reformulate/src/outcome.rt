@@ -1,8 +1,18 @@
 //! The answers of framing.
+use crate::frame::Frame;
 use lattice_reduce::ReduceExcuse;
 use sequence::NoMemory;
 use std::alloc::AllocError;
 use unimodular_pair::Steps;
+
+/// What the equalities have.
+#[derive(Drop)]
+pub enum Framed {
+    /// A frame of their integer solutions.
+    Frame(Frame),
+    /// No integer solution.
+    NoIntegerPoint,
+}
 
 /// The data of an excuse: the steps are legal, and a number of the next one leaves `i128`.
 #[derive(Drop)]

@@ -84,4 +84,4 @@ returns-clause-ok c =
       height = l.height; width = l.width; size = l.size; lines = l.rows;
       back_height = p.height; back_width = p.width; back_size = p.size; back_rows = p.rows;
     } in
-    is_reduction c.args.base.now c.args.back c.args.lines.now c.in_ok-vectors.vectors c.in-Ok.beside.basis c.in_ok-turned.turned c.in_ok-lines.lines c.in-Ok-product.back c.in-Ok.beside.pair c.in-Ok.beside.last c.in-Ok.beside.steps c.requires.as_many c.requires.shape v a made c.of_maps.result (c.of_maps.ensures ∙ ap (λ m. record { to_work = m; back = c.in-Ok-product.back }) c.of.ensures)
+    is_reduction c.args.base.now c.args.back c.args.lines.now c.in_ok-vectors.vectors c.in-Ok.beside.basis c.in_ok-turned.turned c.in_ok-lines.lines c.in-Ok-product.back c.in-Ok.beside.pair c.in-Ok.beside.last c.in-Ok.beside.steps c.requires.as_many c.requires.shape v a made c.requires.inverse c.of_maps.result (c.of_maps.ensures ∙ ap (λ m. record { to_work = m; back = c.in-Ok-product.back }) c.of.ensures)
