@@ -8,3 +8,4 @@ pub mod WholeMinors
 pub mod ReducedLaws
 pub mod ChangeLaws
 pub mod IndependenceLaws
+pub mod CombinedLaws

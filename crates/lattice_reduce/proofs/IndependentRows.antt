@@ -32,6 +32,21 @@ unit_rows t is = independent_rows t (pos 1) (pos 0) (pos 0) (pos 1) is (λ y z e
 pub one_and_seven : (t : Table ℤ) → t ≡ plane_of (pos 1) (pos 0) (pos 7) (pos 1) → IsIndependent integers t.width (items_of (rows_in t)) t.rows
 one_and_seven t is = independent_rows t (pos 1) (pos 0) (pos 7) (pos 1) is (λ y z e f. (omega (linear, e, f), omega (linear, e, f)))
 
--- (2^64, 0) and (0, 1)
-pub large_row : (t : Table ℤ) → t ≡ plane_of (pos 18446744073709551616) (pos 0) (pos 0) (pos 1) → IsIndependent integers t.width (items_of (rows_in t)) t.rows
-large_row t is = independent_rows t (pos 18446744073709551616) (pos 0) (pos 0) (pos 1) is (λ y z e f. (omega (linear, e, f), omega (linear, e, f)))
+-- the one row (a, b)
+abbrev pub line_of : ℤ → ℤ → Table ℤ
+line_of a b = record { rows = 1; width = 2; items = a ∷ (b ∷ []) }
+
+-- it is independent where it is not zero
+independent_row : (t : Table ℤ) (a b : ℤ) → t ≡ line_of a b → ((y : ℤ) → pos 0 +ℤ y *ℤ a ≡ pos 0 → pos 0 +ℤ y *ℤ b ≡ pos 0 → y ≡ pos 0) → IsIndependent integers t.width (items_of (rows_in t)) t.rows
+independent_row t a b is only =
+    subst (λ s. IsIndependent integers s.width (items_of (rows_in s)) s.rows) (sym is) (λ y sums k lt.
+    let first : k ≡ 0 = omega arith in
+    subst (λ i. y i ≡ pos 0) (sym first) (only (y 0) (sums 0 (omega arith)) (sums 1 (omega arith))))
+
+-- (2^64, 0)
+pub large_row : (t : Table ℤ) → t ≡ line_of (pos 18446744073709551616) (pos 0) → IsIndependent integers t.width (items_of (rows_in t)) t.rows
+large_row t is = independent_row t (pos 18446744073709551616) (pos 0) is (λ y e f. omega (linear, e, f))
+
+-- (2, 0)
+pub even_row : (t : Table ℤ) → t ≡ line_of (pos 2) (pos 0) → IsIndependent integers t.width (items_of (rows_in t)) t.rows
+even_row t is = independent_row t (pos 2) (pos 0) is (λ y e f. omega (linear, e, f))

@@ -7,3 +7,8 @@ pub mod StateSteps
 pub mod CopySteps
 pub mod ProductSteps
 pub mod IndependentRows
+pub mod RaisedSteps
+pub mod LastSteps
+pub mod BesideSteps
+pub mod ShiftSteps
+pub mod EndSteps

@@ -3,3 +3,4 @@ pub mod Reductions
 pub mod States
 pub mod Stops
 pub mod Beside
+pub mod BesideStates

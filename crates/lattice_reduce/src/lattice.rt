@@ -10,6 +10,7 @@ ghost use Rattle.lattice_reduce.specs.Stops.{StopsSo};
 ghost use Rattle.spaces.specs.Tables.{rows_in};
 ghost use Rattle.unimodular_pair.specs.Gathering.{unit_vectors};
 
+use crate::copies::copied;
 use crate::reduction::{Halt, Reduction};
 use sequence::{NoMemory, Sequence};
 use spaces::{Grid, Space};
@@ -37,26 +38,21 @@ pub enum ReduceStop {
     NoMemory,
 }
 
-// A copy of the matrix.
-fn copied<S: Space>(alloc: Global, basis: &Grid<S, i128>) -> Result<Grid<S, i128>, NoMemory>
-    ensures height { IfOk result (λ copy. copy.rows ≡ basis.now.rows) }
-    ensures width { IfOk result (λ copy. copy.width ≡ basis.now.width) }
-    ensures rows { IfOk result (λ copy. rows_in copy ≡ rows_in basis.now) }
-{
-    let count = basis.rows();
-    let width = basis.width();
-    let mut copy = Grid::filled(alloc, count, width, 0)?;
-    for i in 0..count {
-        copy.row_mut(i).copy_from_slice(basis.row(i));
+impl From<NoMemory> for ReduceStop {
+    ghost use Rattle.lattice_reduce.specs.declared.lattice.ReduceStop.{ReduceStop};
+
+    ghost from_gives = { λ _ stop. stop ≡ ReduceStop.NoMemory };
+
+    fn from(_error: NoMemory) -> ReduceStop {
+        ReduceStop::NoMemory
     }
-    Ok(copy)
 }
 
 // The reduction of this basis before its first step.
 fn begun<S: Space>(alloc: Global, basis: &Grid<S, i128>) -> Result<Reduction<S>, NoMemory>
     requires few { basis.now.rows ≤ 256 }
     requires independent { IsIndependent integers basis.now.width (items_of (rows_in basis.now)) basis.now.rows }
-    ensures settled { IfOk result (λ r. SettledTo r.basis r.numbers.items 0) }
+    ensures settled { IfOk result (λ r. SettledTo r.basis r.numbers 0) }
     ensures height { IfOk result (λ r. r.basis.rows ≡ basis.now.rows) }
     ensures width { IfOk result (λ r. r.basis.width ≡ basis.now.width) }
     ensures rows { IfOk result (λ r. rows_in r.basis ≡ rows_in basis.now) }
@@ -67,13 +63,37 @@ fn begun<S: Space>(alloc: Global, basis: &Grid<S, i128>) -> Result<Reduction<S>,
     let count = basis.rows();
     let copy = copied(alloc, basis)?;
     let pair = Pair::identity(alloc, count)?;
-    let numbers = vec![in alloc; 0i128; count * count]?;
+    let numbers = Grid::filled(alloc, count + 1, count, 0)?;
     Ok(Reduction {
         basis: copy,
         pair,
         steps: Sequence::new(alloc),
         numbers,
     })
+}
+
+/// The reduction of this basis with all its steps done.
+pub(crate) fn reduction_of<S: Space>(
+    alloc: Global,
+    basis: &Grid<S, i128>,
+) -> Result<Reduction<S>, ReduceStop>
+    requires few { basis.now.rows ≤ 256 }
+    requires independent { IsIndependent integers basis.now.width (items_of (rows_in basis.now)) basis.now.rows }
+    ensures settled { IfOk result (λ r. SettledTo r.basis r.numbers basis.now.rows) }
+    ensures legal { IfOk result (λ r. Reduces basis.now.width (rows_in basis.now) r.steps (rows_in r.basis)) }
+    ensures pair { IfOk result (λ r. r.pair ≡ pair_behind (unit_vectors basis.now.rows) r.steps) }
+    ensures height { IfOk result (λ r. r.basis.rows ≡ basis.now.rows) }
+    ensures width { IfOk result (λ r. r.basis.width ≡ basis.now.width) }
+    ensures stop { IfErr result (λ stop. StopsSo basis.now.width (rows_in basis.now) stop) }
+{
+    let mut reduction = begun(alloc, basis)?;
+    match reduction.run() {
+        Ok(()) => Ok(reduction),
+        Err(Halt::Wide) => Err(ReduceStop::Excuse(ReduceExcuse {
+            steps: reduction.steps,
+        })),
+        Err(Halt::NoMemory) => Err(ReduceStop::NoMemory),
+    }
 }
 
 /// A reduced basis of the lattice that the rows span (Lenstra, Lenstra, Lovász 1982), by whole numbers alone (de Weger
@@ -92,19 +112,10 @@ pub fn reduce<S: Space>(alloc: Global, basis: &Grid<S, i128>) -> Result<Reduced<
     ensures stop { IfErr result (λ stop. StopsSo basis.now.width (rows_in basis.now) stop) }
 {
     let _size = basis.rows();
-    let mut reduction = match begun(alloc, basis) {
-        Ok(reduction) => reduction,
-        Err(NoMemory) => return Err(ReduceStop::NoMemory),
-    };
-    match reduction.run() {
-        Ok(()) => Ok(Reduced {
-            basis: reduction.basis,
-            pair: reduction.pair,
-            steps: reduction.steps,
-        }),
-        Err(Halt::Wide) => Err(ReduceStop::Excuse(ReduceExcuse {
-            steps: reduction.steps,
-        })),
-        Err(Halt::NoMemory) => Err(ReduceStop::NoMemory),
-    }
+    let reduction = reduction_of(alloc, basis)?;
+    Ok(Reduced {
+        basis: reduction.basis,
+        pair: reduction.pair,
+        steps: reduction.steps,
+    })
 }

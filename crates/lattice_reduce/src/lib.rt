@@ -3,6 +3,7 @@
 
 mod beside;
 mod conditions;
+mod copies;
 mod exchange;
 mod lattice;
 mod numbers;
