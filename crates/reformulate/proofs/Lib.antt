@@ -1,0 +1,15 @@
+pub mod VectorSteps
+pub mod ChartLaws
+pub mod PairWays
+pub mod MatrixSteps
+pub mod BasisSteps
+pub mod GatherSteps
+pub mod FrameLaws
+pub mod ProductSteps
+pub mod ReducingSteps
+pub mod QuotientSteps
+pub mod TakingSteps
+pub mod UnitBasis
+pub mod FramingSteps
+pub mod SliceLaws
+pub mod SliceSteps

@@ -1,3 +1,11 @@
 pub mod Substitutions
+pub mod Bases
+pub mod Charts
+pub mod Halts
+pub mod Quotients
+pub mod Settling
+pub mod Slices
 pub mod Solutions
+pub mod Framing
+pub mod Excuses
 pub mod Frames

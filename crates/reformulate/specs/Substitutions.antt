@@ -41,3 +41,8 @@ pub record IsShaped (s : Substitution) : Type 0 where
   pub size_back : length s.back.items ≡ s.back.rows * s.back.width
   pub narrow : s.to_work.lines.rows ≤ 256
   pub few : s.to_work.lines.width ≤ 256
+
+-- it has that shape, and V K y is y for each y
+pub record IsSubstitution (s : Substitution) : Type 0 where
+  pub shaped : IsShaped s
+  pub inverse : (y : List ℤ) → length y ≡ dimension_of s → times_vector integers (rows_in s.back) (times_vector integers (rows_in s.to_work.lines) y) ≡ y

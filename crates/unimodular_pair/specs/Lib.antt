@@ -5,3 +5,6 @@ pub mod Runs
 pub mod Halts
 pub mod PairLaws
 pub mod GatheringLaws
+pub mod NearestLaws
+pub mod PairTables
+pub mod StateLaws

@@ -11,6 +11,9 @@ mod rows;
 mod step;
 mod stop;
 
+pub use choice::{first_nonzero, next_pair};
+pub use columns::{column_stays, lower_column};
+pub use nearest::nearest_factor;
 pub use pair::Pair;
 pub use step::{Step, Steps};
 pub use stop::CompleteStop;

@@ -1,0 +1,12 @@
+use Rattle.std.proofs.Common.{◌≡◌, take}
+use Rattle.reformulate.specs.Charts.{chart_of}
+use Rattle.reformulate.specs.Framing.{Reach}
+use Rattle.reformulate.specs.Substitutions.{columns_of, IsSubstitution}
+use Rattle.reformulate.proofs.frame.Frame.of.Given as goal
+
+abbrev pub invariant-loop-equality : goal.invariant-loop-equality
+invariant-loop-equality l = record {
+  shaped : IsSubstitution l.frame;
+  columns : columns_of l.frame ≡ l.width;
+  reach : Reach l.width (take l.equality-index l.equalities) (chart_of l.frame);
+}
