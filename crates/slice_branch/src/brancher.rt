@@ -8,7 +8,6 @@ ghost use Rattle.slice_branch.specs.Places.{is_plain_place, plain_from, IsKept, 
 use crate::check::{closes_under, split_of, widest_of};
 use crate::directions::Thin;
 use crate::frames::child_of;
-use crate::gap::gap_direction;
 use crate::halt::Halt;
 use crate::model::OpenModel;
 use crate::place::{Node, Place, Settled};
@@ -113,10 +112,7 @@ fn open_root<'a>(alloc: Global, model: &'a OpenModel<'a>) -> Result<Place, Halt>
                 depth: 0,
             }))
         }
-        Ok(Framed::NoIntegerPoint(gap)) => {
-            let direction = gap_direction(alloc, model, &gap)?;
-            Ok(Place::Settled(Some(Settled::Gap(direction))))
-        }
+        Ok(Framed::NoIntegerPoint) => Err(Halt::GivesUp),
         Err(FrameStop::NoMemory) => Err(Halt::NoMemory),
         Err(FrameStop::Excuse(_)) => Err(Halt::GivesUp),
     }
@@ -154,13 +150,6 @@ impl SliceBrancher<'_> {
                 } else {
                     None
                 }
-            }
-            Settled::Gap(direction) => {
-                if direction.count > 0 {
-                    return None;
-                }
-                let cut = split_of(self.rows, best, path, self.most, direction)?;
-                Some(Move::Split(cut))
             }
         }
     }

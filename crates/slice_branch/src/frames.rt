@@ -67,7 +67,8 @@ fn slice_frame(
     form: &Form<Kernel>,
     value: i128,
 ) -> Result<Frame, Halt> {
-    if form.items().len() != frame.dimension() || divisor_of(form.items()) != Some(1) {
+    let dimension = frame.dimension();
+    if dimension == 0 || form.items().len() != dimension || divisor_of(form.items()) != Some(1) {
         return Err(Halt::GivesUp);
     }
     let pair = match Pair::complete(alloc, form) {
@@ -75,6 +76,9 @@ fn slice_frame(
         Err(CompleteStop::NoMemory) => return Err(Halt::NoMemory),
         Err(CompleteStop::Wide(_)) => return Err(Halt::GivesUp),
     };
+    if pair.u().rows() != frame.dimension() {
+        return Err(Halt::GivesUp);
+    }
     match frame.slice(alloc, &pair, value) {
         Ok(child) => Ok(child),
         Err(FrameStop::NoMemory) => Err(Halt::NoMemory),

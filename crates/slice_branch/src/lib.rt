@@ -6,7 +6,6 @@ mod check;
 mod directions;
 mod ends;
 mod frames;
-mod gap;
 mod halt;
 mod model;
 mod place;

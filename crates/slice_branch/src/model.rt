@@ -1,5 +1,5 @@
 //! A model without its columns of one value and the rows that its box cannot violate.
-ghost use Rattle.std.specs.Prelude.{◌≡◌, length, OnOk, IfOk};
+ghost use Rattle.std.specs.Prelude.{◌≡◌, length, All, IfOk};
 ghost use Rattle.presolve_map.specs.Columns.{IsColumnMap};
 
 use crate::halt::Halt;
@@ -40,7 +40,9 @@ impl OpenModel<'_> {
     }
 
     /// The rows with equal sides, as equalities over the work columns.
-    pub(crate) fn equalities(&self, alloc: Global) -> Result<Equalities, NoMemory> {
+    pub(crate) fn equalities(&self, alloc: Global) -> Result<Equalities, NoMemory>
+        ensures { IfOk result (All (λ equality. length equality.form ≡ length self.now.work.rows.box)) }
+    {
         let mut equalities = Sequence::new(alloc);
         for i in 0..self.work.rows() {
             let low = self.work.low(i);

@@ -1,5 +1,4 @@
 //! What a brancher keeps of a node.
-use crate::ends::Direction;
 use crate::short::Shortener;
 use farkas_rows::Line;
 use range_dict::RangeDict;
@@ -21,8 +20,6 @@ pub struct Node {
 pub enum Settled {
     /// Bounds cross, or a row cannot be met within the box.
     Closed(Line),
-    /// The equalities have no integer point: a form that has no whole value where they hold.
-    Gap(Direction),
 }
 
 /// What a brancher keeps of a node.

@@ -44,8 +44,12 @@ const SPLIT_FIXED: &str =
     "NAME          SPLIT\r\nROWS\r\n N  COST\r\n E  R1\r\n E  R2\r\nCOLUMNS\r\n    MARK0     'MARKER'                 'INTORG'\r\n    X1        R1        71             R2        37\r\n    X2        R1        94             R2        41\r\n    X3        R1        86             R2        83\r\n    MARK1     'MARKER'                 'INTEND'\r\nRHS\r\n    RHS       R1        125            R2        80\r\nBOUNDS\r\n UP BND       X1        1\r\n UP BND       X2        1\r\n UP BND       X3        1\r\nENDATA\r\n";
 
 // The files of the folder `examples`.
-const BOXES_44: &str =
-    "NAME boxes of 6, 9 and 20 that make 44 together\nROWS\n E total\nCOLUMNS\n six total 6\n nine total 9\n twenty total 20\nRHS\n total 44\nBOUNDS\n UI six 100\n UI nine 100\n UI twenty 100\nENDATA\n";
+const LARGE_COINS: &str =
+    "NAME large coins\nROWS\n N cost\n E r\nCOLUMNS\n x r 10007\n y r 10009\nRHS\n r 100140047\nBOUNDS\n UI x 20000\n UI y 20000\nENDATA\n";
+
+// Coins of 2^70 and of 2^70 + 1, of which there is one each.
+const FAR_COINS: &str =
+    "NAME far coins\nROWS\n N cost\n E r\nCOLUMNS\n x r 1180591620717411303424\n y r 1180591620717411303425\nRHS\n r 1180591620717411303425\nBOUNDS\n UI x 1\n UI y 1\nENDATA\n";
 
 const EVEN_SUM_FAR: &str =
     "NAME an even sum is no odd number\nROWS\n E sum\nCOLUMNS\n x sum 2\n y sum 4\nRHS\n sum 7\nBOUNDS\n UI x 1000000\n UI y 1000000\nENDATA\n";
@@ -88,7 +92,8 @@ fn runs_answer_and_report(rt: HostRuntime) -> Result<(), Fail> {
         (SPLIT_FREE, 1, "INFEASIBLE\n"),
         (SPLIT_FIXED, 1, "INFEASIBLE\n"),
         (HALVES, 0, "OPTIMAL\nVALUE -3/2\nPOINT 3 x\n"),
-        (EVEN_SUM_FAR, 2, "SPENT\n"),
+        (EVEN_SUM_FAR, 1, "INFEASIBLE\n"),
+        (FAR_COINS, 0, "OPTIMAL\nVALUE 0\nPOINT 0 x\nPOINT 1 y\n"),
         (PARITY_LINES, 1, "INFEASIBLE\n"),
         (
             TWO_CONSTRAINTS,
@@ -116,8 +121,8 @@ fn proofs_are_put(rt: HostRuntime) -> Result<(), Fail> {
         ("solve m p", EMPTY, "SLICER 1\nOPTIMAL\nE Z0:1\nDONE\n"),
         (
             "solve --nodes 1 m p",
-            TWO_COINS,
-            "SLICER 1\nOPEN\nS P 0 11 0:1\nB 3:1 6:1\nA 2:1 6:1\nO 11\nSPENT\n",
+            FAR_COINS,
+            "SLICER 1\nOPEN\nS P 0 2 0:1\nB 3:1 6:1\nA 2:1 6:1\nO 2\nSPENT\n",
         ),
     ] {
         let mut desk = MemDesk::new(alloc);
@@ -131,41 +136,23 @@ fn proofs_are_put(rt: HostRuntime) -> Result<(), Fail> {
 #[test]
 fn a_search_counts_its_nodes(rt: HostRuntime) -> Result<(), Fail> {
     let alloc = rt.alloc();
-    // Counted by hand. The root of TWO_COINS is split into 11 values of x. Under 0 and under 1 the node is split into 11 values
-    // of y, of which the second under 1 is the point; from there on each node is closed at once. In BOXES_44 the point is the
-    // 816th node.
+    // The root of TWO_COINS is split into one slice, on which its frame has one point. Each direction of THIN_TRIANGLE is wider
+    // than a slice. The kernel vector of FAR_COINS has no square of 128 bits, so its root is split by single columns.
     for (line, text, report, nodes, plain) in [
         ("solve m p", EMPTY, "OPTIMAL\nVALUE 0\n", 1, 0),
         (
             "solve m p",
             TWO_COINS,
             "OPTIMAL\nVALUE 0\nPOINT 1 x\nPOINT 1 y\n",
-            34,
-            3,
+            2,
+            0,
         ),
-        ("solve m p", PARITY_LINES, "INFEASIBLE\n", 7, 3),
-        ("solve --nodes 1 m p", THIN_TRIANGLE, "SPENT\n", 1, 1),
-        (
-            "solve --nodes 33 m p",
-            TWO_COINS,
-            "SPENT\nVALUE 0\nPOINT 1 x\nPOINT 1 y\n",
-            33,
-            3,
-        ),
-        (
-            "solve --nodes 34 m p",
-            TWO_COINS,
-            "OPTIMAL\nVALUE 0\nPOINT 1 x\nPOINT 1 y\n",
-            34,
-            3,
-        ),
-        (
-            "solve m p",
-            BOXES_44,
-            "SPENT\nVALUE 0\nPOINT 1 six\nPOINT 2 nine\nPOINT 1 twenty\n",
-            1000,
-            11,
-        ),
+        ("solve m p", TWO_COINS_UNREACHABLE, "INFEASIBLE\n", 1, 0),
+        ("solve m p", EVEN_SUM, "INFEASIBLE\n", 1, 0),
+        ("solve --nodes 1 m p", LARGE_COINS, "INFEASIBLE\n", 1, 0),
+        ("solve --nodes 1 m p", THIN_TRIANGLE, "SPENT\n", 1, 0),
+        ("solve m p", SPLIT_FREE, "INFEASIBLE\n", 1, 0),
+        ("solve --nodes 3 m p", FAR_COINS, "SPENT\n", 3, 2),
     ] {
         let mut desk = MemDesk::new(alloc);
         desk.add_input("m", text.as_bytes())?;
@@ -183,7 +170,7 @@ fn a_desk_that_never_fails_is_served(rt: HostRuntime) -> Result<(), Fail> {
     for (line, report) in [
         (
             "solve m p",
-            "OPTIMAL\nVALUE 0\nPOINT 1 x\nPOINT 1 y\nNODES 34\nPLAIN 3\n",
+            "OPTIMAL\nVALUE 0\nPOINT 1 x\nPOINT 1 y\nNODES 2\nPLAIN 0\n",
         ),
         ("solve other p", "TEXT NoEnd 0\n"),
     ] {
@@ -469,7 +456,7 @@ fn faults_of_texts_are_printed(rt: HostRuntime) -> Result<(), Fail> {
 fn diagonal(alloc: Global, size: u32) -> Result<String, AllocError> {
     let mut text = String::from_str(alloc, "ROWS\n")?;
     for row in 0..size {
-        text.push_str(format!(in alloc; " E r{row}\n")?.as_str())?;
+        text.push_str(format!(in alloc; " G r{row}\n")?.as_str())?;
     }
     text.push_str("COLUMNS\n")?;
     for column in 0..size {
@@ -500,7 +487,7 @@ fn a_model_of_the_greatest_size_is_solved(rt: HostRuntime) -> Result<(), Fail> {
     );
     assert!(rt;
         desk.said()
-            .ends_with(b"\nPOINT 1 x255\nNODES 513\nPLAIN 256\n")
+            .ends_with(b"\nPOINT 1 x255\nNODES 1\nPLAIN 0\n")
     );
     Ok(())
 }
@@ -562,15 +549,15 @@ fn texts_and_lines_are_limited(rt: HostRuntime) -> Result<(), Fail> {
 #[test]
 fn faults_are_answered(rt: HostRuntime) -> Result<(), Fail> {
     let alloc = rt.alloc();
-    // A text of this size is taken in one call, and the next call finds its end. Then the proof is put: its head, 34 nodes and its
+    // A text of this size is taken in one call, and the next call finds its end. Then the proof is put: its head, 2 nodes and its
     // last line. The last call says the report.
     for (call, code, said) in [
         (1, 6, "READFAULT\n"),
         (2, 6, "READFAULT\n"),
         (3, 7, ""),
-        (38, 7, ""),
-        (39, 7, ""),
-        (40, 0, "OPTIMAL\nVALUE 0\nPOINT 1 x\nPOINT 1 y\n"),
+        (6, 7, ""),
+        (7, 7, ""),
+        (8, 0, "OPTIMAL\nVALUE 0\nPOINT 1 x\nPOINT 1 y\n"),
     ] {
         let mut desk = MemDesk::new(alloc);
         desk.add_input("m", TWO_COINS.as_bytes())?;
@@ -693,8 +680,8 @@ fn a_proof_that_is_put_is_accepted(rt: HostRuntime) -> Result<(), Fail> {
         (HALVES, "ACCEPTED OPTIMAL\nVALUE -3/2\n"),
         (PARITY_PAIR, "ACCEPTED INFEASIBLE\n"),
         (SPLIT_FREE, "ACCEPTED INFEASIBLE\n"),
-        // A part of a proof claims nothing.
-        (EVEN_SUM_FAR, "REJECTED Claim 2\n"),
+        (EVEN_SUM_FAR, "ACCEPTED INFEASIBLE\n"),
+        (FAR_COINS, "ACCEPTED OPTIMAL\nVALUE 0\n"),
     ] {
         let mut desk = MemDesk::new(alloc);
         desk.add_input("m", model.as_bytes())?;
