@@ -1,4 +1,4 @@
-use Rattle.std.proofs.Common.{◌≡◌, pos, ◌+ℤ◌, ◌-ℤ◌, ◌*ℤ◌, ◌≤ℤ◌, SFits, rules, Bool, true, to_z-of_z, sym, ap, ◌∙◌, arith}
+use Rattle.std.proofs.Common.{pos, ◌*ℤ◌, SFits, rules, to_z-of_z, ap, ◌∙◌}
 use Rattle.std.specs.Int.{w128}
 use Rattle.lattice_reduce.proofs.BoundSteps.{le_of_test, order_divided, square_within, sum_as_difference, test_of_le}
 use Rattle.lattice_reduce.proofs.conditions.is_in_order_beyond.Goals as goal
