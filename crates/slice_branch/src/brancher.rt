@@ -7,6 +7,7 @@ ghost use Rattle.slice_branch.specs.Places.{is_plain_place, plain_from, IsKept, 
 
 use crate::check::{closes_under, split_of, widest_of};
 use crate::directions::Thin;
+use crate::forms::root_forms;
 use crate::frames::child_of;
 use crate::halt::Halt;
 use crate::model::OpenModel;
@@ -18,7 +19,7 @@ use plain_slices::plain_move;
 use presolve_map::{Presolved, presolve};
 use proof_tree::{Brancher, Cut, Move};
 use range_dict::{RangeDict, RangeStop};
-use reformulate::{Equalities, Frame, FrameStop, Framed};
+use reformulate::{Equalities, Frame, Framed};
 use sequence::{NoMemory, Sequence};
 use std::alloc::Global;
 use whole_rows::DenseRows;
@@ -102,20 +103,19 @@ fn open_root<'a>(alloc: Global, model: &'a OpenModel<'a>) -> Result<Place, Halt>
     ensures { IfOk result IsRootPlace }
 {
     let equalities = model.equalities(alloc)?;
-    match Frame::of(alloc, model.work.columns(), &equalities) {
-        Ok(Framed::Frame(frame)) => {
-            let dict = root_dict(alloc, model)?;
-            Ok(Place::Framed(Node {
-                frame,
-                dict,
-                short: shortener(alloc, &equalities)?,
-                depth: 0,
-            }))
-        }
-        Ok(Framed::NoIntegerPoint) => Err(Halt::GivesUp),
-        Err(FrameStop::NoMemory) => Err(Halt::NoMemory),
-        Err(FrameStop::Excuse(_)) => Err(Halt::GivesUp),
-    }
+    let Framed::Frame(frame) = Frame::of(alloc, model.work.columns(), &equalities)? else {
+        return Err(Halt::GivesUp);
+    };
+    let dict = root_dict(alloc, model)?;
+    let short = shortener(alloc, &equalities)?;
+    let forms = root_forms(alloc, &frame, &short)?;
+    Ok(Place::Framed(Node {
+        frame,
+        dict,
+        forms,
+        short,
+        depth: 0,
+    }))
 }
 
 /// What makes forms shorter by the equalities of the root.
@@ -190,6 +190,7 @@ impl SliceBrancher<'_> {
         };
         let thin = Thin {
             frame: &node.frame,
+            forms: &node.forms,
             short: &node.short,
         };
         framed_move(self.alloc, model, task, thin, &mut node.dict)

@@ -8,7 +8,7 @@ use crate::seen::Seen;
 use crate::short::Shortener;
 use range_dict::RangeDict;
 use reformulate::Frame;
-use spaces::{Form, Original};
+use spaces::{Form, Grid, Original, Work};
 use std::alloc::Global;
 
 /// Factors of candidates are smaller than this in size: larger ones would leave the 64 bits of a dictionary.
@@ -18,6 +18,8 @@ const LARGEST_FACTOR: i128 = 1 << 40;
 #[derive(Clone, Copy, Drop)]
 pub(crate) struct Thin<'a> {
     pub(crate) frame: &'a Frame,
+    /// Short forms for its coordinates.
+    pub(crate) forms: &'a Grid<Work, i128>,
     pub(crate) short: &'a Shortener,
 }
 
@@ -51,7 +53,7 @@ fn column_form(
         Some(0) => Ok(None),
         Some(1) => Ok(Some(model.column(alloc, j)?)),
         Some(divisor) => {
-            let factors = primitive_factors(alloc, frame, lines.row(j), divisor)?;
+            let factors = primitive_factors(alloc, thin.forms, lines.row(j), divisor)?;
             Ok(Some(short_form(alloc, model, thin.short, &factors)?))
         }
     }
@@ -61,18 +63,17 @@ fn column_form(
 /// coordinates of a frame.
 fn primitive_factors(
     alloc: Global,
-    frame: &Frame,
+    forms: &Grid<Work, i128>,
     line: &[i128],
     divisor: i128,
 ) -> Result<Vec<i128>, Halt> {
-    let back = frame.back();
-    let mut factors = vec![in alloc; 0; back.width()]?;
-    for k in 0..back.rows() {
+    let mut factors = vec![in alloc; 0; forms.width()]?;
+    for k in 0..forms.rows() {
         let times = line
             .get(k)
             .and_then(|item| floor(*item, divisor))
             .ok_or(Halt::GivesUp)?;
-        add_row(&mut factors, back.row(k), times).ok_or(Halt::GivesUp)?;
+        add_row(&mut factors, forms.row(k), times).ok_or(Halt::GivesUp)?;
     }
     Ok(factors)
 }
@@ -115,15 +116,15 @@ pub(crate) fn thin_direction(
     seen: &mut Seen,
 ) -> Result<Option<Direction>, Halt> {
     let mut best = None;
-    let back = thin.frame.back();
-    for k in (0..back.rows()).rev() {
+    let forms = thin.forms;
+    for k in (0..forms.rows()).rev() {
         if is_settled(&best) {
             break;
         }
-        let form = short_form(alloc, model, thin.short, back.row(k))?;
+        let form = model.lifted(alloc, forms.row(k))?;
         best = better_of(alloc, dict, seen, best, form)?;
     }
-    for column in 0..back.width() {
+    for column in 0..forms.width() {
         if is_settled(&best) {
             break;
         }

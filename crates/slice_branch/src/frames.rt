@@ -1,16 +1,18 @@
 //! Frames of slices.
-ghost use Rattle.std.specs.Prelude.{◌≡◌, ◌≤◌, ◌+◌, IfOk, IfSome, length, pos};
-ghost use Rattle.unimodular_pair.specs.Gathering.{common_divisor};
+ghost use Rattle.std.specs.Prelude.{◌≡◌, ◌≤◌, ◌+◌, ◌<◌, [], IfOk, IfSome, OnOk, get_or, length, pos};
+ghost use Rattle.unimodular_pair.specs.Gathering.{common_divisor, IsGatheredPair};
+ghost use Rattle.reformulate.specs.Substitutions.{dimension_of};
 
+use crate::forms::slice_forms;
 use crate::halt::Halt;
 use crate::model::OpenModel;
 use crate::place::Node;
 use frac128::gcd;
 use proof_tree::Cut;
-use reformulate::{Frame, FrameStop};
+use reformulate::Frame;
 use spaces::{Form, Kernel, Work};
 use std::alloc::Global;
-use unimodular_pair::{CompleteStop, Pair};
+use unimodular_pair::Pair;
 
 /// The greatest common divisor of factors; none where one of them has no size.
 pub(crate) fn divisor_of(factors: &[i128]) -> Option<i128>
@@ -60,30 +62,21 @@ fn turn(
     })
 }
 
-/// The frame of the slice on which a form over the coordinates has a value.
-fn slice_frame(
-    alloc: Global,
-    frame: &Frame,
-    form: &Form<Kernel>,
-    value: i128,
-) -> Result<Frame, Halt> {
+/// A pair whose first row is a form over the coordinates of a frame.
+fn completed(alloc: Global, frame: &Frame, form: &Form<Kernel>) -> Result<Pair, Halt>
+    ensures gathered { IfOk result (λ pair. IsGatheredPair (get_or pair.u 0 []) pair) }
+    ensures some { OnOk result (0 < dimension_of frame.now) }
+    ensures size { IfOk result (λ pair. length pair.u ≡ dimension_of frame.now) }
+{
     let dimension = frame.dimension();
     if dimension == 0 || form.items().len() != dimension || divisor_of(form.items()) != Some(1) {
         return Err(Halt::GivesUp);
     }
-    let pair = match Pair::complete(alloc, form) {
-        Ok(pair) => pair,
-        Err(CompleteStop::NoMemory) => return Err(Halt::NoMemory),
-        Err(CompleteStop::Wide(_)) => return Err(Halt::GivesUp),
-    };
-    if pair.u().rows() != frame.dimension() {
+    let pair = Pair::complete(alloc, form)?;
+    if pair.u().rows() != dimension {
         return Err(Halt::GivesUp);
     }
-    match frame.slice(alloc, &pair, value) {
-        Ok(child) => Ok(child),
-        Err(FrameStop::NoMemory) => Err(Halt::NoMemory),
-        Err(FrameStop::Excuse(_)) => Err(Halt::GivesUp),
-    }
+    Ok(pair)
 }
 
 /// The frame and the dictionary of slice `j` of a split of a node.
@@ -99,17 +92,20 @@ pub(crate) fn child_of(
 {
     let value = cut.lo.checked_add(j).ok_or(Halt::GivesUp)?;
     let turned = turn(alloc, model, &node.frame, cut, value)?;
-    let frame = slice_frame(alloc, &node.frame, &turned.kernel, turned.value)?;
+    let pair = completed(alloc, &node.frame, &turned.kernel)?;
+    let frame = node.frame.slice(alloc, &pair, turned.value)?;
     let dict = match &node.dict {
         Some(dict) => Some(dict.child(alloc, cut.form.items(), value)?),
         None => None,
     };
     let mut short = node.short.copied(alloc)?;
     short.add(alloc, turned.work.items())?;
+    let forms = slice_forms(alloc, &node.forms, &node.frame, &pair, &frame, &short)?;
     let depth = node.depth + 1;
     Ok(Node {
         frame,
         dict,
+        forms,
         short,
         depth,
     })

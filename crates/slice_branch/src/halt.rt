@@ -1,8 +1,10 @@
 //! Why the fast way of a node gives up.
 use range_dict::RangeStop;
+use reformulate::FrameStop;
 use sequence::NoMemory;
 use spaces::MapStop;
 use std::alloc::{AllocError, AllocFailed};
+use unimodular_pair::CompleteStop;
 
 /// Why no move of a node is found in this way.
 #[derive(Clone, Copy, Debug, PartialEq, Eq, Drop)]
@@ -27,6 +29,24 @@ impl From<MapStop> for Halt {
         match stop {
             MapStop::NoMemory => Halt::NoMemory,
             MapStop::Wide => Halt::GivesUp,
+        }
+    }
+}
+
+impl From<FrameStop> for Halt {
+    fn from(stop: FrameStop) -> Halt {
+        match stop {
+            FrameStop::NoMemory => Halt::NoMemory,
+            FrameStop::Excuse(_) => Halt::GivesUp,
+        }
+    }
+}
+
+impl From<CompleteStop> for Halt {
+    fn from(stop: CompleteStop) -> Halt {
+        match stop {
+            CompleteStop::NoMemory => Halt::NoMemory,
+            CompleteStop::Wide(_) => Halt::GivesUp,
         }
     }
 }

@@ -5,6 +5,7 @@ mod brancher;
 mod check;
 mod directions;
 mod ends;
+mod forms;
 mod frames;
 mod halt;
 mod model;

@@ -3,6 +3,7 @@ use crate::short::Shortener;
 use farkas_rows::Line;
 use range_dict::RangeDict;
 use reformulate::Frame;
+use spaces::{Grid, Work};
 
 /// A node in the coordinates of a frame, with the dictionary of its linear programs, where it has one in whole numbers of
 /// 64 bits.
@@ -10,6 +11,8 @@ use reformulate::Frame;
 pub struct Node {
     pub(crate) frame: Frame,
     pub(crate) dict: Option<RangeDict>,
+    /// Short forms that have the values of the frame's coordinates, up to constants.
+    pub(crate) forms: Grid<Work, i128>,
     pub(crate) short: Shortener,
     /// How many slices lead to the node.
     pub(crate) depth: usize,

@@ -1,11 +1,12 @@
 //! Whole points next to a vertex, which are tried before any split.
+use crate::directions::Thin;
 use crate::halt::Halt;
 use crate::model::OpenModel;
 use crate::quotient::floor;
 use exact_vectors::{add_product, dot_checked};
 use range_dict::Vertex;
 use reformulate::Frame;
-use spaces::Vect;
+use spaces::{Grid, Vect, Work};
 use std::alloc::Global;
 
 /// How a number is rounded.
@@ -74,18 +75,17 @@ fn shifted_value(model: &OpenModel, vertex: &Vertex, j: usize, base: i128) -> Op
 /// The coordinates of a point in a frame, rounded.
 fn rounded_coordinates(
     alloc: Global,
-    frame: &Frame,
+    forms: &Grid<Work, i128>,
     shifted: &[i128],
     denominator: i128,
     rounding: Rounding,
 ) -> Result<Option<Vec<i128>>, Halt> {
-    let back = frame.back();
-    if shifted.len() != back.width() {
+    if shifted.len() != forms.width() {
         return Ok(None);
     }
-    let mut y = Vec::with_capacity(alloc, back.rows())?;
-    for k in 0..back.rows() {
-        let value = dot_checked(back.row(k), shifted).and_then(|numerator| rounded(
+    let mut y = Vec::with_capacity(alloc, forms.rows())?;
+    for k in 0..forms.rows() {
+        let value = dot_checked(forms.row(k), shifted).and_then(|numerator| rounded(
             rounding,
             numerator,
             denominator,
@@ -102,14 +102,15 @@ fn rounded_coordinates(
 pub(crate) fn rounded_point(
     alloc: Global,
     model: &OpenModel,
-    frame: &Frame,
+    thin: Thin<'_>,
     shifted: &[i128],
     denominator: i128,
     rounding: Rounding,
 ) -> Result<Option<Vec<i128>>, Halt> {
-    let Some(y) = rounded_coordinates(alloc, frame, shifted, denominator, rounding)? else {
+    let Some(y) = rounded_coordinates(alloc, thin.forms, shifted, denominator, rounding)? else {
         return Ok(None);
     };
+    let frame = thin.frame;
     if y.len() != frame.to_work().lines().width() {
         return Ok(None);
     }

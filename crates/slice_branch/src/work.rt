@@ -13,7 +13,6 @@ use crate::seen::Seen;
 use farkas_rows::{End, Line, Path};
 use proof_tree::Move;
 use range_dict::{Met, RangeDict, Vertex};
-use reformulate::Frame;
 use spaces::Vect;
 use std::alloc::Global;
 use whole_rows::DenseRows;
@@ -58,17 +57,17 @@ fn near<'a>(
     alloc: Global,
     model: &OpenModel,
     task: Task<'a>,
-    frame: &Frame,
+    thin: Thin<'_>,
     vertex: &Vertex,
 ) -> Result<Option<Move>, Halt>
     requires { HasForms (length task.rows.now.box) task.path.now }
     ensures { IfOk result (λ found. IfSome found (IsFramedMove task.entry.rows.now task.entry.path.now task.entry.best)) }
 {
-    let Some(values) = shifted(alloc, model, frame, vertex)? else {
+    let Some(values) = shifted(alloc, model, thin.frame, vertex)? else {
         return Ok(None);
     };
     for rounding in [Rounding::Nearest, Rounding::Down, Rounding::Up] {
-        let point = rounded_point(alloc, model, frame, &values, vertex.denominator, rounding)?;
+        let point = rounded_point(alloc, model, thin, &values, vertex.denominator, rounding)?;
         if let Some(point) = found(task, point) {
             return Ok(Some(point));
         }
@@ -82,7 +81,7 @@ fn cheapest<'a>(
     alloc: Global,
     model: &OpenModel,
     task: Task<'a>,
-    frame: &Frame,
+    thin: Thin<'_>,
     dict: &mut RangeDict,
     seen: &mut Seen,
 ) -> Result<Option<Move>, Halt>
@@ -97,7 +96,7 @@ fn cheapest<'a>(
     if let Some(point) = found(task, whole_values(alloc, &vertex)?) {
         return Ok(Some(point));
     }
-    let point = near(alloc, model, task, frame, &vertex)?;
+    let point = near(alloc, model, task, thin, &vertex)?;
     seen.add(vertex)?;
     Ok(point)
 }
@@ -156,7 +155,7 @@ pub(crate) fn framed_move<'a>(
     }
     let mut seen = Seen::new(alloc);
     seen.add(vertex)?;
-    if let Some(point) = cheapest(alloc, model, task, thin.frame, dict, &mut seen)? {
+    if let Some(point) = cheapest(alloc, model, task, thin, dict, &mut seen)? {
         return Ok(point);
     }
     split(alloc, model, task, thin, dict, &mut seen)
