@@ -21,9 +21,9 @@ pub use examples::{
 };
 pub use fault::{FaultKind, TextFault};
 pub use layout::Layout;
+pub use layout_law::{fixed_reads_free, worked_free_readings};
 pub use lines::bound_kind::BoundKind;
 pub use lines::section::Section;
-pub use layout_law::{fixed_reads_free, worked_free_readings};
 pub use read_stop::ReadStop;
 pub use reading::read;
 
