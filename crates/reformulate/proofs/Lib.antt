@@ -11,3 +11,5 @@ pub mod QuotientSteps
 pub mod TakingSteps
 pub mod UnitBasis
 pub mod FramingSteps
+pub mod SliceLaws
+pub mod SliceSteps

@@ -4,6 +4,7 @@ pub mod Charts
 pub mod Halts
 pub mod Quotients
 pub mod Settling
+pub mod Slices
 pub mod Solutions
 pub mod Framing
 pub mod Excuses

@@ -12,8 +12,12 @@ mod outcome;
 mod products;
 mod quotient;
 mod reducing;
+mod slicing;
 mod taking;
 
 pub use equality::{Equalities, Equality};
 pub use frame::Frame;
 pub use outcome::{FrameExcuse, FrameStop, Framed};
+
+#[cfg(test)]
+mod tests;

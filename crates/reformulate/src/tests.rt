@@ -1,0 +1,42 @@
+use crate::{Equalities, Equality, Frame, Framed};
+use sequence::NoMemory;
+use spaces::Form;
+use std::alloc::Global;
+use std::test::Fail;
+
+// a x + b y = side
+fn equality(alloc: Global, a: i128, b: i128, side: i128) -> Result<Equality, NoMemory> {
+    let form = Form::of(vec![in alloc; a, b]?);
+    Ok(Equality { form, side })
+}
+
+#[test]
+fn two_coins(rt: HostRuntime) -> Result<(), Fail> {
+    let mut equalities = Equalities::new(rt.alloc());
+    equalities.push(equality(rt.alloc(), 3, 5, 8)?)?;
+    match Frame::of(rt.alloc(), 2, &equalities) {
+        Ok(Framed::Frame(frame)) => {
+            assert_eq!(rt; frame.dimension(), 1);
+            assert_eq!(rt; frame.to_work().base().items(), [1, 1].as_slice());
+            assert_eq!(rt; frame.to_work().lines().row(0), [-5].as_slice());
+            assert_eq!(rt; frame.to_work().lines().row(1), [3].as_slice());
+            assert_eq!(rt; frame.back().row(0), [1, 2].as_slice());
+        }
+        Ok(Framed::NoIntegerPoint) => assert!(rt; false),
+        Err(_stop) => assert!(rt; false),
+    }
+    Ok(())
+}
+
+#[test]
+fn parity_pair(rt: HostRuntime) -> Result<(), Fail> {
+    let mut equalities = Equalities::new(rt.alloc());
+    equalities.push(equality(rt.alloc(), 1, 1, 1)?)?;
+    equalities.push(equality(rt.alloc(), 1, -1, 0)?)?;
+    match Frame::of(rt.alloc(), 2, &equalities) {
+        Ok(Framed::NoIntegerPoint) => {}
+        Ok(Framed::Frame(_frame)) => assert!(rt; false),
+        Err(_stop) => assert!(rt; false),
+    }
+    Ok(())
+}
