@@ -109,6 +109,8 @@ module _ (s : Substitution) (p : Matrices) (beta : ℤ) (h : IsSubstitution s) (
           br ∙ ap₂ (λ j l. times_matrix integers j l (rows_in s.back)) shaped.width ro ∙ times_matrix-remove (columns_of s) p.u (rows_in s.back) 0 in
       let width : to_work.lines.width ≡ k = comp.width ∙ ap (λ (m : AffineMap). m.lines.width) fi in
       record {
+        old = h;
+        inverse = inverse;
         chart = ap₂ (λ (b : List ℤ) (q : Matrices). record { base = b; pair = q }) base (ap₂ (λ (u v : List (List ℤ)). record { u = u; v = v }) back_is lines);
         base = ap length base ∙ Matrix.length-add integers (columns_of s) s.to_work.base (scale integers beta (column integers (times_matrix integers (dimension_of s) (rows_in s.to_work.lines) p.v) 0)) shaped.base
             (Matrix.length-scale integers beta (column integers (times_matrix integers (dimension_of s) (rows_in s.to_work.lines) p.v) 0) ∙ Pair.length-column (times_matrix integers (dimension_of s) (rows_in s.to_work.lines) p.v) 0 ∙ Pair.length-times_matrix (dimension_of s) (rows_in s.to_work.lines) p.v ∙ Tables.length-rows_in s.to_work.lines)
@@ -184,3 +186,44 @@ module _ (s : Substitution) (p : Matrices) (beta : ℤ) (h : IsSubstitution s) (
 
       back : (x v : ℤ) → x +ℤ v ≡ beta +ℤ x → v ≡ beta
       back x v z = omega (linear, z)
+
+-- ---- the ranges
+
+-- the composition with the map of the frame stays in range
+pub composition_stays : (s : Substitution) (p : Matrices) (beta : ℤ) (shift : List ℤ) (vectors : Table ℤ) (first next : AffineMap) → IsSubstitution s → first ≡ record { base = shift; lines = vectors } → next ≡ s.to_work → shift ≡ with_multiple beta (column integers p.v 0) (zeros integers (dimension_of s))
+    → rows_in vectors ≡ map (λ row. remove row 0) p.v → vectors.width + 1 ≡ dimension_of s → SliceStays s p beta → CompositionStays first next
+composition_stays s p beta shift vectors first next h fi ne sh ve vw stays =
+    subst₂ CompositionStays (sym fi) (sym ne)
+    (λ i lt. subst (λ l. StaysInRange (get_or s.to_work.base i (pos 0)) (row_at s.to_work.lines i) l) (sym sh) (stays.base i (omega (arith, h.shaped.base))),
+    λ i lt j below. subst (λ l. StaysInRange (pos 0) (row_at s.to_work.lines i) (column integers l j)) (sym ve) (stays.lines i j lt (omega (arith, vw))))
+
+-- the product with the rows of V does
+pub back_stays : (s : Substitution) (p : Matrices) (beta : ℤ) (rows old : Table ℤ) → IsSubstitution s → rows_in rows ≡ remove p.u 0 → rows_in old ≡ rows_in s.back → old.width ≡ s.back.width → SliceStays s p beta → MatricesStay old.width (rows_in rows) (rows_in old)
+back_stays s p beta rows old h ro ol ow stays = subst (λ n. MatricesStay n (rows_in rows) (rows_in old)) (sym (ow ∙ h.shaped.width)) (subst₂ (MatricesStay (columns_of s)) (sym ro) (sym ol) stays.back)
+
+-- ---- the reduction that follows
+
+-- what is reduced is inverse
+pub inverse_left : (s : Substitution) (p : Matrices) (beta : ℤ) (to_work : AffineMap) (back : Table ℤ) → 0 < dimension_of s → IsApplied s p beta to_work back → (y : List ℤ) → length y ≡ to_work.lines.width → times_vector integers (rows_in back) (times_vector integers (rows_in to_work.lines) y) ≡ y
+inverse_left s p beta to_work back some a y e =
+    let u = ap (λ (c : Chart). c.pair.u) a.chart in
+    let v = ap (λ (c : Chart). c.pair.v) a.chart in
+    let new = inverse_applied s p beta a.old a.inverse some in
+    let there : 0 < length (times_matrix integers (columns_of s) p.u (rows_in s.back)) = omega (arith, new.height_u) in
+    let fewer = length-remove (times_matrix integers (columns_of s) p.u (rows_in s.back)) 0 there in
+    let count : suc to_work.lines.width ≡ dimension_of s = omega (arith, sym (Tables.length-rows_in back) ∙ ap length u, a.shape.height, fewer, new.height_u) in
+    subst₂ (λ l q. times_vector integers l (times_vector integers q y) ≡ y) (sym u) (sym v) ((inverse_sliced s p beta a.old a.inverse some to_work.lines.width count).inverse y e)
+
+-- an excuse of it is one of the slice
+pub slice_stops : (s : Substitution) (p : Matrices) (beta : ℤ) (c : Chart) → c ≡ sliced (columns_of s) (dimension_of s) (chart_of s) p beta → (stop : FrameStop) → StopsSo (ReducingLeaves c) stop → StopsSo (SliceLeaves s p beta) stop
+slice_stops s p beta c e stop h = go stop (subst (λ k. StopsSo (ReducingLeaves k) stop) e h)
+  where
+    go : (stop : FrameStop) → StopsSo (ReducingLeaves (sliced (columns_of s) (dimension_of s) (chart_of s) p beta)) stop → StopsSo (SliceLeaves s p beta) stop
+    go (stops.Excuse (excuses.Reduce excuse)) h = h
+    go (stops.Excuse (excuses.Product steps)) h = inr h
+    go stops.NoMemory h = tt
+
+-- how many items the shift has
+pub slice_length : (p : Matrices) (beta : ℤ) (shift : List ℤ) (r : ℕ) → AreInverse r p → shift ≡ with_multiple beta (column integers p.v 0) (zeros integers r) → length shift ≡ r
+slice_length p beta shift r inverse sh =
+    ap length sh ∙ Matrix.length-add integers r (zeros integers r) (scale integers beta (column integers p.v 0)) (Matrix.length-zeros integers r) (Matrix.length-scale integers beta (column integers p.v 0) ∙ Pair.length-column p.v 0 ∙ inverse.height_v)

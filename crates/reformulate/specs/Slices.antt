@@ -8,14 +8,14 @@ use Rattle.exact_vectors.specs.Vectors.{dot, zeros}
 use Rattle.spaces.specs.Maps.{AffineMap}
 use Rattle.spaces.specs.Multiples.{with_multiple, MultipleStays}
 use Rattle.spaces.specs.Tables.{Table, row_at, rows_in}
-use Rattle.unimodular_pair.specs.Pairs.{Matrices, matrices_in}
+use Rattle.unimodular_pair.specs.Pairs.{AreInverse, Matrices, matrices_in}
 use Rattle.reformulate.specs.Bases.{HoldBasis}
 use Rattle.reformulate.specs.Charts.{Chart, chart_of}
 use Rattle.reformulate.specs.Excuses.{BackLeaves, MatricesStay, ReducingLeaves}
 use Rattle.reformulate.specs.Frames.{IsFrame}
 use Rattle.reformulate.specs.Framing.{without_vector, Reach}
 use Rattle.reformulate.specs.Solutions.{Meets}
-use Rattle.reformulate.specs.Substitutions.{Substitution, columns_of, dimension_of, point_of}
+use Rattle.reformulate.specs.Substitutions.{Substitution, columns_of, dimension_of, point_of, IsSubstitution}
 use Rattle.reformulate.specs.declared.equality.Equality.{Equality}
 use Rattle.reformulate.specs.declared.outcome.FrameExcuse.{FrameExcuse}
 use Rattle.reformulate.specs.declared.outcome.FrameExcuse.TheVariants as excuses
@@ -57,6 +57,8 @@ SliceLeaves s p beta (excuses.Product steps) =
 
 -- what is left of the maps without the first vector
 pub record IsApplied (s : Substitution) (p : Matrices) (beta : ℤ) (to_work : AffineMap) (back : Table ℤ) : Type 0 where
+  pub old : IsSubstitution s
+  pub inverse : AreInverse (dimension_of s) p
   pub chart : record { base = to_work.base; pair = matrices_in back to_work.lines } ≡ sliced (columns_of s) (dimension_of s) (chart_of s) p beta
   pub base : length to_work.base ≡ to_work.lines.rows
   pub shape : HoldBasis back to_work.lines
