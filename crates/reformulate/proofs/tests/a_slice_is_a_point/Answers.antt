@@ -1,4 +1,4 @@
-use Rattle.std.proofs.Common.{◌≡◌, ℤ, pos, List, [], ◌∷◌, refl, ap, rules, ◌∙◌}
+use Rattle.std.proofs.Common.{◌≡◌, pos, [], ◌∷◌, refl, ap, rules, ◌∙◌}
 use Rattle.exact_math.specs.Gcd.{gcd, gcd_within}
 use Rattle.unimodular_pair.specs.Gathering.{common_divisor}
 use Rattle.reformulate.proofs.tests.a_slice_is_a_point.Goals as goal
