@@ -9,3 +9,4 @@ pub mod ReducedLaws
 pub mod ChangeLaws
 pub mod IndependenceLaws
 pub mod CombinedLaws
+pub mod SizeLaws

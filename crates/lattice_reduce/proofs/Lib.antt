@@ -12,3 +12,6 @@ pub mod LastSteps
 pub mod BesideSteps
 pub mod ShiftSteps
 pub mod EndSteps
+pub mod ResidueSteps
+pub mod BoundSteps
+pub mod BeyondSteps

@@ -1,6 +1,8 @@
 //! The tests in whole numbers of the two conditions on a reduced basis.
-ghost use Rattle.std.specs.Prelude.{◌≡◌, ◌↔◌, ◌*◌, ◌≤◌, pos, ◌+ℤ◌, ◌*ℤ◌, ◌≤ℤ◌, ◌<ℤ◌, nat_abs, IsTrue, MatchOption, SomeIff};
+ghost use Rattle.std.specs.Prelude.{◌≡◌, ◌↔◌, ◌*◌, ◌≤◌, ℤ, pos, ◌+ℤ◌, ◌*ℤ◌, ◌≤ℤ◌, ◌<ℤ◌, nat_abs, IfSome, IsTrue, MatchOption, SomeIff};
 ghost use Rattle.lattice_reduce.specs.Numbers.{FactorLeaves, LeftStays, RightStays, TestStays};
+
+use crate::division::{digits_of, next_beyond};
 
 /// Whether 2 |l| is at most d.
 pub(crate) fn is_small(l: i128, d: i128) -> bool
@@ -48,4 +50,18 @@ pub(crate) fn is_in_order(d: i128, e: i128, f: i128, l: i128) -> Option<bool>
     let left = left_side(d, f, l)?;
     let right = right_side(e)?;
     Some(right <= left)
+}
+
+/// Whether 3 e is at most 4 times the quotient (f d + l²) / e, where products leave `i128`. The square of the quotient is at most
+/// that of d times the square of `square`.
+pub(crate) fn is_in_order_beyond(d: i128, e: i128, f: i128, l: i128, square: i128) -> Option<bool>
+    requires { pos 0 <ℤ e }
+    ensures { IfSome result (λ v. (q : ℤ) → e *ℤ q ≡ f *ℤ d +ℤ l *ℤ l → (q *ℤ q) ≤ℤ ((d *ℤ d) *ℤ (square *ℤ square)) → IsTrue v ↔ (pos 3 *ℤ (e *ℤ e)) ≤ℤ (pos 4 *ℤ (f *ℤ d +ℤ l *ℤ l))) }
+{
+    let size = digits_of(square);
+    let opposite = l.checked_neg()?;
+    let quotient = next_beyond(d, e, f, l, opposite, size + size)?;
+    let left = e.checked_mul(3)?;
+    let right = quotient.checked_mul(4)?;
+    Some(left <= right)
 }

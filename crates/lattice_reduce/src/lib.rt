@@ -4,6 +4,7 @@
 mod beside;
 mod conditions;
 mod copies;
+mod division;
 mod exchange;
 mod lattice;
 mod numbers;
