@@ -1,11 +1,8 @@
 -- Charts after their vectors were replaced by a unimodular pair.
-use Rattle.std.proofs.Common.{◌≡◌, ◌≢◌, ℕ, zero, suc, ◌<◌, ◌≤◌, ℤ, pos, neg_ℤ, ◌+ℤ◌, ◌*ℤ◌, List, [], ◌∷◌, length, map, get_or, set, refl, sym, ap, ap₂, subst, ◌∙◌, arith}
+use Rattle.std.proofs.Common.{◌≡◌, ◌≢◌, ℕ, ◌<◌, ℤ, neg_ℤ, List, length, sym, ap, subst, ◌∙◌, arith}
 use Rattle.std.specs.List.{swap}
-use Rattle.std.proofs.lemmas.List.{length-map, length-set}
-use Rattle.std.proofs.lemmas.List.Edits.{length-swap}
 use Rattle.exact_math.specs.Ring.{integers}
 use Rattle.exact_math.specs.IntegerLaws as Z
-use Rattle.exact_vectors.specs.Vectors.{dot, add, scale, zeros}
 use Rattle.exact_vectors.specs.Matrices.{HasWidth, combination, times_matrix, times_vector, transpose}
 use Rattle.exact_vectors.specs.MatrixLaws as Matrix
 use Rattle.unimodular_pair.specs.Gathering.{unit_vectors}

@@ -1,18 +1,15 @@
 -- A reduced frame, by the tables that hold it.
-use Rattle.std.proofs.Common.{◌≡◌, ℕ, zero, suc, ◌+◌, ◌*◌, ◌<◌, ◌≤◌, ◌^◌, ℤ, pos, ◌+ℤ◌, ◌*ℤ◌, List, [], ◌∷◌, ◌++◌, length, get_or, refl, sym, ap, ap₂, subst, subst₂, ◌∙◌, arith, ⊎_elim, ◌⊎◌, Result}
-use Rattle.std.proofs.lemmas.Bool.{cases_eq, cases_lt}
-use Rattle.std.proofs.lemmas.List.{ext_get_or, length-append}
-use Rattle.exact_math.specs.IntegerLaws as Z
+use Rattle.std.proofs.Common.{◌≡◌, ℕ, zero, suc, ◌*◌, ◌<◌, ◌≤◌, ℤ, pos, ◌*ℤ◌, List, [], ◌∷◌, length, get_or, refl, sym, ap, ap₂, subst, subst₂, ◌∙◌, arith}
+use Rattle.std.proofs.lemmas.List.{ext_get_or}
 use Rattle.exact_math.specs.Ring.{integers}
 use Rattle.exact_vectors.specs.DotLaws as Dot
-use Rattle.exact_vectors.specs.Matrices.{HasWidth, column, combination, times_matrix, times_vector, transpose}
+use Rattle.exact_vectors.specs.Matrices.{HasWidth, combination, times_matrix, times_vector, transpose}
 use Rattle.exact_vectors.specs.MatrixLaws as Matrix
 use Rattle.exact_vectors.specs.SumLaws as Sum
-use Rattle.exact_vectors.specs.Vectors.{dot, sum_below, zeros}
+use Rattle.exact_vectors.specs.Vectors.{zeros}
 use Rattle.gram_minors.specs.Orthogonalisation.{IsIndependent, IsLovaszReduced, rational_rows}
 use Rattle.lattice_reduce.specs.Beside.{ExcusedBeside, IsShifted, ReducesBeside}
 use Rattle.lattice_reduce.specs.Numbers.{items_of}
-use Rattle.spaces.specs.Maps.{AffineMap}
 use Rattle.spaces.specs.Tables.{Table, rows_in}
 use Rattle.spaces.specs.TableLaws as Tables
 use Rattle.unimodular_pair.specs.PairLaws as Pair
@@ -23,10 +20,10 @@ use Rattle.reformulate.proofs.FrameLaws.{IsInverse-reduced}
 use Rattle.reformulate.proofs.MatrixSteps.{row_of_transpose}
 use Rattle.reformulate.proofs.VectorSteps as VectorSteps
 use Rattle.reformulate.specs.Bases.{HoldBasis}
-use Rattle.reformulate.specs.Charts.{Chart, chart_of}
+use Rattle.reformulate.specs.Charts.{Chart}
 use Rattle.reformulate.specs.Excuses.{BackLeaves, MatricesStay}
 use Rattle.reformulate.specs.Framing.{vectors_of, IsReductionOf, ReducesTo}
-use Rattle.reformulate.specs.Substitutions.{Substitution, columns_of, dimension_of, IsShaped, IsSubstitution}
+use Rattle.reformulate.specs.Substitutions.{Substitution, IsSubstitution}
 
 -- ---- independent vectors
 
@@ -50,18 +47,18 @@ independent n r m h y sums k lt =
     let factors : List ℤ = first_values y r in
     let long : length factors ≡ r = length-first_values y r in
     let image : times_vector integers m.v factors ≡ zeros integers n =
-        ext_get_or (pos 0) (times_vector integers m.v factors) (zeros integers n) (Matrix.length-times_vector integers m.v factors ∙ h.height_v ∙ sym (Matrix.length-zeros integers n))
-        (λ i below.
-        let inside : i < length m.v = omega (arith, Matrix.length-times_vector integers m.v factors) in
-        let within : i < n = omega (arith, inside, h.height_v) in
-        let row : List ℤ = get_or m.v i [] in
-        Matrix.times_vector-at integers m.v factors i (pos 0) [] inside
-        ∙ Dot.dot_comm integers row factors
-        ∙ Sum.dot-by_index integers factors row r (omega (arith, long))
-        ∙ Sum.sum_below-same integers r (λ j. get_or factors j (pos 0) *ℤ get_or row j (pos 0)) (λ j. y j *ℤ items_of (transpose r m.v) j i)
-        (λ j below_r. ap₂ ◌*ℤ◌ (first_values-at y r j below_r) (sym (ap (λ l. get_or l i (pos 0)) (row_of_transpose r m.v j h.width_v below_r) ∙ Matrix.column-at integers m.v j i [] (pos 0) inside)))
-        ∙ sums i within
-        ∙ sym (Matrix.zeros-at integers n i)) in
+    ext_get_or (pos 0) (times_vector integers m.v factors) (zeros integers n) (Matrix.length-times_vector integers m.v factors ∙ h.height_v ∙ sym (Matrix.length-zeros integers n))
+    (λ i below.
+    let inside : i < length m.v = omega (arith, Matrix.length-times_vector integers m.v factors) in
+    let within : i < n = omega (arith, inside, h.height_v) in
+    let row : List ℤ = get_or m.v i [] in
+    Matrix.times_vector-at integers m.v factors i (pos 0) [] inside
+    ∙ Dot.dot_comm integers row factors
+    ∙ Sum.dot-by_index integers factors row r (omega (arith, long))
+    ∙ Sum.sum_below-same integers r (λ j. get_or factors j (pos 0) *ℤ get_or row j (pos 0)) (λ j. y j *ℤ items_of (transpose r m.v) j i)
+    (λ j below_r. ap₂ ◌*ℤ◌ (first_values-at y r j below_r) (sym (ap (λ l. get_or l i (pos 0)) (row_of_transpose r m.v j h.width_v below_r) ∙ Matrix.column-at integers m.v j i [] (pos 0) inside)))
+    ∙ sums i within
+    ∙ sym (Matrix.zeros-at integers n i)) in
     let none : times_vector integers m.u (zeros integers n) ≡ factors = ap (times_vector integers m.u) (sym image) ∙ h.inverse factors long in
     let there : k < length m.u = omega (arith, h.height_u) in
     sym (first_values-at y r k lt) ∙ ap (λ l. get_or l k (pos 0)) (sym none) ∙ Matrix.times_vector-at integers m.u (zeros integers n) k (pos 0) [] there ∙ Dot.dot-zeros_right integers n (get_or m.u k [])

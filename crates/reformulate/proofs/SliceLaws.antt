@@ -1,9 +1,9 @@
 -- A unimodular pair applied to the vectors of a chart, whose first one then leaves.
-use Rattle.std.proofs.Common.{◌≡◌, ◌≢◌, ◌⊎◌, inl, inr, ⊎_elim, ℕ, zero, suc, ◌+◌, ◌<◌, ◌≤◌, ℤ, pos, negsuc, neg_ℤ, ◌+ℤ◌, ◌*ℤ◌, List, [], ◌∷◌, ◌++◌, length, map, get_or, set, refl, sym, ap, ap₂, subst, subst₂, ◌∙◌, arith, get_or-set_other, get_or-set_same}
+use Rattle.std.proofs.Common.{◌≡◌, ◌≢◌, ◌⊎◌, inl, inr, ⊎_elim, ℕ, zero, suc, ◌+◌, ◌<◌, ℤ, pos, neg_ℤ, ◌+ℤ◌, ◌*ℤ◌, List, [], ◌∷◌, length, map, get_or, set, refl, sym, ap, ap₂, subst, subst₂, ◌∙◌, arith, get_or-set_other, get_or-set_same}
 use Rattle.std.specs.List.{swap, remove}
 use Rattle.std.proofs.lemmas.Bool.{cases_eq}
 use Rattle.std.proofs.lemmas.List.{ext_get_or, length-map, length-set}
-use Rattle.std.proofs.lemmas.List.Edits.{swap_is, length-swap}
+use Rattle.std.proofs.lemmas.List.Edits.{swap_is}
 use Rattle.exact_math.specs.IntegerLaws as Z
 use Rattle.exact_math.specs.IntegerRing.{linear}
 use Rattle.exact_math.specs.Ring.{integers}
@@ -12,16 +12,16 @@ use Rattle.exact_vectors.specs.Matrices.{HasWidth, column, combination, times_ma
 use Rattle.exact_vectors.specs.MatrixLaws as Matrix
 use Rattle.exact_vectors.specs.Vectors.{dot, add, scale, negate, zeros}
 use Rattle.spaces.specs.Multiples.{with_multiple}
-use Rattle.unimodular_pair.specs.Gathering.{after, unit_vectors, values_at, Gathers, IsGathered, IsGatheredPair, IsLegal}
+use Rattle.unimodular_pair.specs.Gathering.{after, unit_vectors, values_at, Gathers, IsGatheredPair, IsLegal}
 use Rattle.unimodular_pair.specs.GatheringLaws as Gathering
-use Rattle.unimodular_pair.specs.Moves.{exchanged, negated, negated_item, raised_item, raised_row}
+use Rattle.unimodular_pair.specs.Moves.{negated, negated_item, raised_item}
 use Rattle.unimodular_pair.specs.PairLaws as Pair
 use Rattle.unimodular_pair.specs.Pairs.{AreInverse, Matrices, identity}
 use Rattle.unimodular_pair.specs.declared.step.Step.{Step}
 use Rattle.unimodular_pair.specs.declared.step.Step.TheVariants.{Swap, Combine}
 use Rattle.reformulate.proofs.ChartLaws.{IsInverse}
 use Rattle.reformulate.proofs.VectorSteps as VectorSteps
-use Rattle.reformulate.specs.Framing.{without_vector, IsGatheredAt}
+use Rattle.reformulate.specs.Framing.{IsGatheredAt}
 use Rattle.reformulate.specs.Slices.{applied}
 use Rattle.reformulate.specs.declared.equality.Equality.{Equality}
 
@@ -256,18 +256,21 @@ module _ (n r : ℕ) (m : Matrices) (inverse : IsInverse n r m) where
       let gathers : Gathers e.form m g.steps (applied n r m g.last) = subst₂ (λ f k. Gathers f k g.steps (applied n r m g.last)) (sym form) applied-identity lifted.0 in
       let values : values_at e.form (applied n r m g.last) ≡ values_at d g.last = ap (λ f. values_at f (applied n r m g.last)) form ∙ values-applied d g.last long inverse_last in
       let one : get_or (values_at d p) 0 (pos 0) ≡ pos 1 =
-          ap (λ k. get_or (combination integers k d p.v) 0 (pos 0)) h.height_u ∙ Matrix.combination-at integers r d p.v 0 h.width_v ∙ Pair.items_of r p 0 0 h some ∙ Pair.identity-same r 0 some in
+      ap (λ k. get_or (combination integers k d p.v) 0 (pos 0)) h.height_u ∙ Matrix.combination-at integers r d p.v 0 h.width_v ∙ Pair.items_of r p 0 0 h some ∙ Pair.identity-same r 0 some in
       let unit : get_or (values_at d g.last) 0 (pos 0) ≢ pos 0 =
-          ⊎_elim (λ (s : p ≡ g.last). λ z. absurd (omega (linear, subst (λ k. get_or (values_at d k) 0 (pos 0) ≡ pos 1) s one, z)))
-          (λ s. λ z. absurd (omega (linear, s.0, z))) g.sign in
+      ⊎_elim (λ (s : p ≡ g.last). λ z. absurd (omega (linear, subst (λ k. get_or (values_at d k) 0 (pos 0) ≡ pos 1) s one, z)))
+      (λ s. λ z. absurd (omega (linear, s.0, z))) g.sign in
       let zero : (j : ℕ) → j ≢ 0 → get_or (values_at d g.last) j (pos 0) ≡ pos 0 = λ j ne. ⊎_elim (λ (z : get_or (values_at d g.last) 0 (pos 0) ≡ pos 0). absurd (unit z)) (λ z. z) (g.gathered 0 j (λ z. ne (sym z))) in
       let sign : (applied n r m p ≡ applied n r m g.last) ⊎ (applied n r m p ≡ negated 0 (applied n r m g.last)) =
-          ⊎_elim (λ (s : p ≡ g.last). inl (ap (applied n r m) s)) (λ s. inr (ap (applied n r m) s.1 ∙ applied-negated g.last 0 inverse_last some)) g.sign in
-      (g.steps, record {
-        last = applied n r m g.last;
-        gathers = gathers;
-        there = omega (arith, Pair.length-times_matrix n g.last.u m.u, inverse_last.height_u);
-        nonzero = λ z. unit (ap (λ l. get_or l 0 (pos 0)) (sym values) ∙ z);
-        others = λ j ne. ap (λ l. get_or l j (pos 0)) values ∙ zero j ne;
-        sign = sign;
-      }, ap (λ l. get_or l 0 (pos 0)) (ap (λ f. values_at f (applied n r m p)) form ∙ values-applied d p long h) ∙ one)
+      ⊎_elim (λ (s : p ≡ g.last). inl (ap (applied n r m) s)) (λ s. inr (ap (applied n r m) s.1 ∙ applied-negated g.last 0 inverse_last some)) g.sign in (
+        g.steps,
+        record {
+          last = applied n r m g.last;
+          gathers = gathers;
+          there = omega (arith, Pair.length-times_matrix n g.last.u m.u, inverse_last.height_u);
+          nonzero = λ z. unit (ap (λ l. get_or l 0 (pos 0)) (sym values) ∙ z);
+          others = λ j ne. ap (λ l. get_or l j (pos 0)) values ∙ zero j ne;
+          sign = sign;
+        },
+        ap (λ l. get_or l 0 (pos 0)) (ap (λ f. values_at f (applied n r m p)) form ∙ values-applied d p long h) ∙ one,
+      )

@@ -1,9 +1,6 @@
 -- Slices of a frame.
-use Rattle.std.proofs.Common.{◌≡◌, ◌≢◌, ◌⊎◌, inl, inr, ℕ, zero, suc, ◌+◌, ◌*◌, ◌^◌, ◌<◌, ◌≤◌, ℤ, pos, ◌+ℤ◌, ◌-ℤ◌, ◌*ℤ◌, List, [], ◌∷◌, ◌++◌, length, map, get_or, replicate, refl, sym, ap, ap₂, subst, subst₂, ◌∙◌, arith}
-use Rattle.std.specs.Prelude.{IfErr, IfOk, Result, Ok, Err}
+use Rattle.std.proofs.Common.{◌≡◌, inr, ℕ, suc, ◌+◌, ◌*◌, ◌<◌, ◌≤◌, ℤ, pos, ◌+ℤ◌, ◌-ℤ◌, ◌*ℤ◌, List, [], ◌∷◌, ◌++◌, length, map, get_or, refl, sym, ap, ap₂, subst, subst₂, ◌∙◌, arith}
 use Rattle.std.specs.List.{remove}
-use Rattle.std.proofs.Math.Nat.{mul-le-mul}
-use Rattle.std.proofs.lemmas.List.{length-map}
 use Rattle.std.proofs.lemmas.List.Edits.{length-remove}
 use Rattle.exact_math.specs.IntegerLaws as Z
 use Rattle.exact_math.specs.IntegerRing.{linear}
@@ -19,24 +16,21 @@ use Rattle.spaces.specs.Tables.{Table, row_at, rows_in}
 use Rattle.spaces.specs.TableLaws as Tables
 use Rattle.unimodular_pair.specs.Gathering.{IsGatheredPair}
 use Rattle.unimodular_pair.specs.PairLaws as Pair
-use Rattle.unimodular_pair.specs.Pairs.{AreInverse, Matrices, matrices_in}
+use Rattle.unimodular_pair.specs.Pairs.{AreInverse, Matrices}
 use Rattle.unimodular_pair.specs.declared.step.Step.{Step}
 use Rattle.reformulate.proofs.ChartLaws.{IsChart, IsInverse, IsInverse-removed, coordinates-point}
 use Rattle.reformulate.proofs.FrameLaws.{IsChart-reduced, IsChart-takes_up}
 use Rattle.reformulate.proofs.SliceLaws.{combination-remove, form_back, gathered_first, times_matrix-map, times_matrix-remove}
 use Rattle.reformulate.proofs.TakingSteps.{inverse_of}
 use Rattle.reformulate.proofs.VectorSteps as VectorSteps
-use Rattle.reformulate.specs.Bases.{HoldBasis}
 use Rattle.reformulate.specs.Charts.{Chart, chart_of}
 use Rattle.reformulate.specs.Excuses.{MatricesStay, ReducingLeaves, StopsSo}
 use Rattle.reformulate.specs.Frames.{IsFrame}
-use Rattle.reformulate.specs.Framing.{rest_of, without_vector, IsReductionOf, Reach, TakesUp}
+use Rattle.reformulate.specs.Framing.{IsReductionOf, TakesUp}
 use Rattle.reformulate.specs.Framing.Reach.{one_more}
 use Rattle.reformulate.specs.Slices.{applied, slice_equality, sliced, IsApplied, IsSlice, SliceLeaves, SliceStays}
-use Rattle.reformulate.specs.Solutions.{Meets}
-use Rattle.reformulate.specs.Substitutions.{Substitution, columns_of, dimension_of, point_of, IsSubstitution}
+use Rattle.reformulate.specs.Substitutions.{Substitution, columns_of, dimension_of, IsSubstitution}
 use Rattle.reformulate.specs.declared.equality.Equality.{Equality}
-use Rattle.reformulate.specs.declared.outcome.FrameExcuse.{FrameExcuse}
 use Rattle.reformulate.specs.declared.outcome.FrameExcuse.TheVariants as excuses
 use Rattle.reformulate.specs.declared.outcome.FrameStop.{FrameStop}
 use Rattle.reformulate.specs.declared.outcome.FrameStop.TheVariants as stops
@@ -96,17 +90,17 @@ module _ (s : Substitution) (p : Matrices) (beta : ℤ) (h : IsSubstitution s) (
       let long_col : length col ≡ dimension_of s = Pair.length-column p.v 0 ∙ inverse.height_v in
       let moved : shift ≡ scale integers beta col = sh ∙ VectorSteps.add-zeros_left (dimension_of s) (scale integers beta col) (Matrix.length-scale integers beta col ∙ long_col) in
       let base : to_work.base ≡ add integers s.to_work.base (scale integers beta (column integers (times_matrix integers (dimension_of s) (rows_in s.to_work.lines) p.v) 0)) =
-          comp.base ∙ ap (λ (m : AffineMap). add integers s.to_work.base (times_vector integers (rows_in s.to_work.lines) m.base)) fi
-          ∙ ap (λ l. add integers s.to_work.base (times_vector integers (rows_in s.to_work.lines) l)) moved
-          ∙ ap (add integers s.to_work.base) (Matrix.times_vector-scale integers (rows_in s.to_work.lines) beta col ∙ ap (scale integers beta) (sym (VectorSteps.column-product (dimension_of s) 0 (rows_in s.to_work.lines) p.v inverse.width_v))) in
+      comp.base ∙ ap (λ (m : AffineMap). add integers s.to_work.base (times_vector integers (rows_in s.to_work.lines) m.base)) fi
+      ∙ ap (λ l. add integers s.to_work.base (times_vector integers (rows_in s.to_work.lines) l)) moved
+      ∙ ap (add integers s.to_work.base) (Matrix.times_vector-scale integers (rows_in s.to_work.lines) beta col ∙ ap (scale integers beta) (sym (VectorSteps.column-product (dimension_of s) 0 (rows_in s.to_work.lines) p.v inverse.width_v))) in
       let wide : HasWidth (suc k) p.v = subst (λ j. HasWidth j p.v) (sym count) inverse.width_v in
       let lines : rows_in to_work.lines ≡ map (λ row. remove row 0) (times_matrix integers (dimension_of s) (rows_in s.to_work.lines) p.v) =
-          comp.lines ∙ ap (λ (m : AffineMap). times_matrix integers m.lines.width (rows_in s.to_work.lines) (rows_in m.lines)) fi
-          ∙ ap (times_matrix integers k (rows_in s.to_work.lines)) ve
-          ∙ times_matrix-map (suc k) k (rows_in s.to_work.lines) p.v (map (λ row. remove row 0) p.v) (λ row. remove row 0) (λ row. combination-remove k 0 row p.v wide (omega arith))
-          ∙ ap (λ j. map (λ row. remove row 0) (times_matrix integers j (rows_in s.to_work.lines) p.v)) count in
+      comp.lines ∙ ap (λ (m : AffineMap). times_matrix integers m.lines.width (rows_in s.to_work.lines) (rows_in m.lines)) fi
+      ∙ ap (times_matrix integers k (rows_in s.to_work.lines)) ve
+      ∙ times_matrix-map (suc k) k (rows_in s.to_work.lines) p.v (map (λ row. remove row 0) p.v) (λ row. remove row 0) (λ row. combination-remove k 0 row p.v wide (omega arith))
+      ∙ ap (λ j. map (λ row. remove row 0) (times_matrix integers j (rows_in s.to_work.lines) p.v)) count in
       let back_is : rows_in back ≡ remove (times_matrix integers (columns_of s) p.u (rows_in s.back)) 0 =
-          br ∙ ap₂ (λ j l. times_matrix integers j l (rows_in s.back)) shaped.width ro ∙ times_matrix-remove (columns_of s) p.u (rows_in s.back) 0 in
+      br ∙ ap₂ (λ j l. times_matrix integers j l (rows_in s.back)) shaped.width ro ∙ times_matrix-remove (columns_of s) p.u (rows_in s.back) 0 in
       let width : to_work.lines.width ≡ k = comp.width ∙ ap (λ (m : AffineMap). m.lines.width) fi in
       record {
         old = h;
@@ -139,15 +133,17 @@ module _ (s : Substitution) (p : Matrices) (beta : ℤ) (h : IsSubstitution s) (
   takes_up : IsGatheredPair (get_or p.u 0 []) p → (steps : List Step) × TakesUp (slice_equality s (get_or p.u 0 []) beta) (chart_of s) steps (sliced (columns_of s) (dimension_of s) (chart_of s) p beta)
   takes_up g =
       let e : Equality = slice_equality s (get_or p.u 0 []) beta in
-      let first = gathered_first (columns_of s) (dimension_of s) (chart_of s).pair (inverse_of s h) e p some inverse g refl in
-      (first.0, record {
-        place = 0;
-        quotient = beta;
-        pair = applied (columns_of s) (dimension_of s) (chart_of s).pair p;
-        gathered = first.1;
-        divides = ap (λ z. z *ℤ beta) first.2 ∙ Z.one_mul beta ∙ rest beta (dot integers e.form s.to_work.base);
-        left = refl;
-      })
+      let first = gathered_first (columns_of s) (dimension_of s) (chart_of s).pair (inverse_of s h) e p some inverse g refl in (
+        first.0,
+        record {
+          place = 0;
+          quotient = beta;
+          pair = applied (columns_of s) (dimension_of s) (chart_of s).pair p;
+          gathered = first.1;
+          divides = ap (λ z. z *ℤ beta) first.2 ∙ Z.one_mul beta ∙ rest beta (dot integers e.form s.to_work.base);
+          left = refl;
+        },
+      )
     where
       rest : (b x : ℤ) → b ≡ (b +ℤ x) -ℤ x
       rest b x = omega linear
@@ -163,12 +159,12 @@ module _ (s : Substitution) (p : Matrices) (beta : ℤ) (h : IsSubstitution s) (
       let fewer = length-remove (times_matrix integers (columns_of s) p.u (rows_in s.back)) 0 there in
       let dimension : dimension_of t + 1 ≡ dimension_of s = omega (arith, red.dimension, fewer, new.height_u) in
       let columns : columns_of t ≡ columns_of s = red.columns ∙ Matrix.length-add integers (columns_of s) s.to_work.base (scale integers beta (column integers (applied (columns_of s) (dimension_of s) (chart_of s).pair p).v 0)) h.shaped.base
-          (Matrix.length-scale integers beta (column integers (applied (columns_of s) (dimension_of s) (chart_of s).pair p).v 0) ∙ Pair.length-column (applied (columns_of s) (dimension_of s) (chart_of s).pair p).v 0 ∙ new.height_v) in
+      (Matrix.length-scale integers beta (column integers (applied (columns_of s) (dimension_of s) (chart_of s).pair p).v 0) ∙ Pair.length-column (applied (columns_of s) (dimension_of s) (chart_of s).pair p).v 0 ∙ new.height_v) in
       let pulled : List ℤ = combination integers (columns_of s) (get_or p.u 0 []) (rows_in s.back) in
       let top : 0 < length p.u = omega (arith, inverse.height_u) in
       let long_d : length (get_or p.u 0 []) ≡ dimension_of s = Matrix.HasWidth-at integers (dimension_of s) p.u 0 [] inverse.width_u top in
       let value = λ (y : List ℤ). Dot.dot-add_right integers pulled s.to_work.base (times_vector integers (rows_in s.to_work.lines) y) (h.shaped.base ∙ sym (Matrix.length-times_vector integers (rows_in s.to_work.lines) y ∙ old.height_v))
-          ∙ ap (λ z. dot integers pulled s.to_work.base +ℤ z) (Matrix.dot_times_vector integers (dimension_of s) pulled (rows_in s.to_work.lines) y old.width_v ∙ ap (λ f. dot integers f y) (form_back (columns_of s) (dimension_of s) (chart_of s).pair old (get_or p.u 0 []) long_d)) in
+      ∙ ap (λ z. dot integers pulled s.to_work.base +ℤ z) (Matrix.dot_times_vector integers (dimension_of s) pulled (rows_in s.to_work.lines) y old.width_v ∙ ap (λ f. dot integers f y) (form_back (columns_of s) (dimension_of s) (chart_of s).pair old (get_or p.u 0 []) long_d)) in
       record {
         columns = columns;
         dimension = dimension;
@@ -193,9 +189,10 @@ module _ (s : Substitution) (p : Matrices) (beta : ℤ) (h : IsSubstitution s) (
 pub composition_stays : (s : Substitution) (p : Matrices) (beta : ℤ) (shift : List ℤ) (vectors : Table ℤ) (first next : AffineMap) → IsSubstitution s → first ≡ record { base = shift; lines = vectors } → next ≡ s.to_work → shift ≡ with_multiple beta (column integers p.v 0) (zeros integers (dimension_of s))
     → rows_in vectors ≡ map (λ row. remove row 0) p.v → vectors.width + 1 ≡ dimension_of s → SliceStays s p beta → CompositionStays first next
 composition_stays s p beta shift vectors first next h fi ne sh ve vw stays =
-    subst₂ CompositionStays (sym fi) (sym ne)
-    (λ i lt. subst (λ l. StaysInRange (get_or s.to_work.base i (pos 0)) (row_at s.to_work.lines i) l) (sym sh) (stays.base i (omega (arith, h.shaped.base))),
-    λ i lt j below. subst (λ l. StaysInRange (pos 0) (row_at s.to_work.lines i) (column integers l j)) (sym ve) (stays.lines i j lt (omega (arith, vw))))
+    subst₂ CompositionStays (sym fi) (sym ne) (
+      λ i lt. subst (λ l. StaysInRange (get_or s.to_work.base i (pos 0)) (row_at s.to_work.lines i) l) (sym sh) (stays.base i (omega (arith, h.shaped.base))),
+      λ i lt j below. subst (λ l. StaysInRange (pos 0) (row_at s.to_work.lines i) (column integers l j)) (sym ve) (stays.lines i j lt (omega (arith, vw))),
+    )
 
 -- the product with the rows of V does
 pub back_stays : (s : Substitution) (p : Matrices) (beta : ℤ) (rows old : Table ℤ) → IsSubstitution s → rows_in rows ≡ remove p.u 0 → rows_in old ≡ rows_in s.back → old.width ≡ s.back.width → SliceStays s p beta → MatricesStay old.width (rows_in rows) (rows_in old)

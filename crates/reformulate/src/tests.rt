@@ -1,11 +1,16 @@
+ghost use Rattle.std.specs.Prelude.{◌≡◌, length, IfOk};
+
 use crate::{Equalities, Equality, Frame, Framed};
 use sequence::NoMemory;
 use spaces::Form;
 use std::alloc::Global;
 use std::test::Fail;
+use unimodular_pair::Pair;
 
 // a x + b y = side
-fn equality(alloc: Global, a: i128, b: i128, side: i128) -> Result<Equality, NoMemory> {
+fn equality(alloc: Global, a: i128, b: i128, side: i128) -> Result<Equality, NoMemory>
+    ensures { IfOk result (λ equality. length equality.form ≡ 2) }
+{
     let form = Form::of(vec![in alloc; a, b]?);
     Ok(Equality { form, side })
 }
@@ -36,6 +41,31 @@ fn parity_pair(rt: HostRuntime) -> Result<(), Fail> {
     match Frame::of(rt.alloc(), 2, &equalities) {
         Ok(Framed::NoIntegerPoint) => {}
         Ok(Framed::Frame(_frame)) => assert!(rt; false),
+        Err(_stop) => assert!(rt; false),
+    }
+    Ok(())
+}
+
+#[test]
+fn a_slice_is_a_point(rt: HostRuntime) -> Result<(), Fail> {
+    let mut equalities = Equalities::new(rt.alloc());
+    equalities.push(equality(rt.alloc(), 3, 5, 8)?)?;
+    let form = Form::of(vec![in rt.alloc(); 1i128]?);
+    match Frame::of(rt.alloc(), 2, &equalities) {
+        Ok(Framed::Frame(frame)) => match Pair::complete(rt.alloc(), &form) {
+            Ok(pair) => {
+                assert_eq!(rt; frame.dimension(), 1);
+                match frame.slice(rt.alloc(), &pair, 2) {
+                    Ok(slice) => {
+                        assert_eq!(rt; slice.dimension(), 0);
+                        assert_eq!(rt; slice.to_work().base().items(), [-9, 7].as_slice());
+                    }
+                    Err(_stop) => assert!(rt; false),
+                }
+            }
+            Err(_stop) => assert!(rt; false),
+        },
+        Ok(Framed::NoIntegerPoint) => assert!(rt; false),
         Err(_stop) => assert!(rt; false),
     }
     Ok(())

@@ -1,4 +1,4 @@
-use Rattle.std.proofs.Common.{◌<◌, [], length, get_or, sym, ◌∙◌, ap, arith}
+use Rattle.std.proofs.Common.{◌<◌, length, sym, ◌∙◌, ap, arith}
 use Rattle.spaces.specs.Tables.{rows_in}
 use Rattle.spaces.specs.TableLaws.{length-rows_in, length-with_row, rows_in-at}
 use Rattle.reformulate.proofs.MatrixSteps.{row_more, rows_all}

@@ -1,6 +1,5 @@
-use Rattle.std.proofs.Common.{◌+◌, ◌≡◌, ◌<◌, pos, length, get_or, SFits, sym, ap, ◌∙◌, rules, arith, to_z-of_z}
+use Rattle.std.proofs.Common.{◌≡◌, length, arith}
 use Rattle.std.specs.List.{remove}
-use Rattle.std.specs.Int.{w128}
 use Rattle.std.proofs.lemmas.List.Edits.{length-remove}
 use Rattle.reformulate.proofs.MatrixSteps.{items_all}
 use Rattle.reformulate.proofs.matrices.copy_without.Goals as goal

@@ -1,6 +1,5 @@
-use Rattle.std.proofs.Common.{◌≡◌, ◌<◌, ◌≤◌, ◌+ℤ◌, ◌*ℤ◌, pos, length, get_or, SFits, FitsSigned, sym, ap, ap₂, subst, subst₂, ◌∙◌, rules, arith, to_z-of_z}
+use Rattle.std.proofs.Common.{◌<◌, ◌+ℤ◌, ◌*ℤ◌, pos, get_or, SFits, FitsSigned, sym, ap, subst, ◌∙◌, rules, arith, to_z-of_z}
 use Rattle.std.specs.Int.{w128}
-use Rattle.std.proofs.lemmas.List.{get_or_default}
 use Rattle.exact_math.specs.Ring.{integers}
 use Rattle.exact_vectors.specs.Matrices.{column}
 use Rattle.spaces.specs.Tables.{rows_in}

@@ -1,4 +1,4 @@
-use Rattle.std.proofs.Common.{◌≡◌, length, sym, ap, subst, ◌∙◌}
+use Rattle.std.proofs.Common.{length, sym, ap, subst, ◌∙◌}
 use Rattle.lattice_reduce.specs.Beside.{ExcusedBeside}
 use Rattle.lattice_reduce.specs.declared.lattice.ReduceExcuse.{ReduceExcuse}
 use Rattle.unimodular_pair.specs.Pairs.{matrices_in}
@@ -48,8 +48,14 @@ of-requires c =
     let made : IsMade c.args.back c.in-Ok.beside.basis c.in_ok-turned.turned c.in_ok-lines.lines c.in-Ok-product.back c.in-Ok.beside.pair = record {
       turned_rows = c.in_ok-turned.ensures.rows ∙ ap (λ k. transpose k (rows_in c.v.result.now)) c.v.ensures.width ∙ ap (transpose _) c.v.ensures.rows;
       turned_height = c.in_ok-turned.ensures.height ∙ c.v.ensures.width;
-      height = l.height; width = l.width; size = l.size; lines = l.rows;
-      back_height = p.height; back_width = p.width; back_size = p.size; back_rows = p.rows;
+      height = l.height;
+      width = l.width;
+      size = l.size;
+      lines = l.rows;
+      back_height = p.height;
+      back_width = p.width;
+      back_size = p.size;
+      back_rows = p.rows;
     } in
     length_last c.args.base.now c.args.back c.args.lines.now c.in_ok-vectors.vectors c.in-Ok.beside.basis c.in_ok-turned.turned c.in_ok-lines.lines c.in-Ok-product.back c.in-Ok.beside.pair c.in-Ok.beside.last c.in-Ok.beside.steps c.requires.as_many c.requires.shape v a made
 
@@ -64,8 +70,14 @@ of_maps-requires c =
     let made : IsMade c.args.back c.in-Ok.beside.basis c.in_ok-turned.turned c.in_ok-lines.lines c.in-Ok-product.back c.in-Ok.beside.pair = record {
       turned_rows = c.in_ok-turned.ensures.rows ∙ ap (λ k. transpose k (rows_in c.v.result.now)) c.v.ensures.width ∙ ap (transpose _) c.v.ensures.rows;
       turned_height = c.in_ok-turned.ensures.height ∙ c.v.ensures.width;
-      height = l.height; width = l.width; size = l.size; lines = l.rows;
-      back_height = p.height; back_width = p.width; back_size = p.size; back_rows = p.rows;
+      height = l.height;
+      width = l.width;
+      size = l.size;
+      lines = l.rows;
+      back_height = p.height;
+      back_width = p.width;
+      back_size = p.size;
+      back_rows = p.rows;
     } in
     let is = is_substitution c.args.base.now c.args.back c.args.lines.now c.in_ok-vectors.vectors c.in-Ok.beside.basis c.in_ok-turned.turned c.in_ok-lines.lines c.in-Ok-product.back c.in-Ok.beside.pair c.in-Ok.beside.last c.in-Ok.beside.steps c.requires.as_many c.requires.shape v a made c.requires.inverse in
     rw c.of.ensures is
@@ -81,7 +93,13 @@ returns-clause-ok c =
     let made : IsMade c.args.back c.in-Ok.beside.basis c.in_ok-turned.turned c.in_ok-lines.lines c.in-Ok-product.back c.in-Ok.beside.pair = record {
       turned_rows = c.in_ok-turned.ensures.rows ∙ ap (λ k. transpose k (rows_in c.v.result.now)) c.v.ensures.width ∙ ap (transpose _) c.v.ensures.rows;
       turned_height = c.in_ok-turned.ensures.height ∙ c.v.ensures.width;
-      height = l.height; width = l.width; size = l.size; lines = l.rows;
-      back_height = p.height; back_width = p.width; back_size = p.size; back_rows = p.rows;
+      height = l.height;
+      width = l.width;
+      size = l.size;
+      lines = l.rows;
+      back_height = p.height;
+      back_width = p.width;
+      back_size = p.size;
+      back_rows = p.rows;
     } in
     is_reduction c.args.base.now c.args.back c.args.lines.now c.in_ok-vectors.vectors c.in-Ok.beside.basis c.in_ok-turned.turned c.in_ok-lines.lines c.in-Ok-product.back c.in-Ok.beside.pair c.in-Ok.beside.last c.in-Ok.beside.steps c.requires.as_many c.requires.shape v a made c.requires.inverse c.of_maps.result (c.of_maps.ensures ∙ ap (λ m. record { to_work = m; back = c.in-Ok-product.back }) c.of.ensures)

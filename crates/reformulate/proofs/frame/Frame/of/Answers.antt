@@ -1,8 +1,7 @@
-use Rattle.std.proofs.Common.{◌≡◌, ◌≤◌, ◌<◌, ◌+◌, take, get_or, length, sym, ap, subst, ◌∙◌, arith}
+use Rattle.std.proofs.Common.{◌≡◌, ◌≤◌, ◌<◌, ◌+◌, take, get_or, length, sym, subst}
 use Rattle.std.proofs.lemmas.List.{take_all}
 use Rattle.reformulate.proofs.FrameLaws.{Reach-reached}
 use Rattle.reformulate.proofs.FramingSteps.{columns-begun, columns-more, excused_on, none_solves, reached_frame, Reach-begun, Reach-met, Reach-more}
-use Rattle.reformulate.proofs.TakingSteps.{inverse_of}
 use Rattle.reformulate.specs.Charts.{chart_of}
 use Rattle.reformulate.specs.Framing.{Reach}
 use Rattle.reformulate.specs.Settling.{IsTakenUp}
@@ -38,13 +37,14 @@ loop-equality-preserved c =
     let inv = c.loop-equality.invariant in
     let reached = Reach-reached n (take i c.args.equalities.now) (chart_of s) inv.reach in
     elim c.match-branch-3.branch [
-      in-Met w ↦
+      | in-Met w ↦
           subst (λ (t : Substitution). record { shaped : IsSubstitution t; columns : columns_of t ≡ c.args.width; reach : Reach c.args.width (take (c.loop-equality.equality-index + 1) c.args.equalities.now) (chart_of t) }) (sym w.frame-is)
           (record { shaped = inv.shaped; columns = inv.columns; reach = Reach-met n c.args.equalities.now i e (chart_of s) lt is inv.reach (subst (IsTakenUp e (chart_of s)) w.in-Met.is c.in_ok-take_up.ensures.ok) })
-    | in-Framed w ↦
+      | in-Framed w ↦
           let more = subst (IsTakenUp e (chart_of s)) w.in-Framed.is c.in_ok-take_up.ensures.ok in
           subst (λ (t : Substitution). record { shaped : IsSubstitution t; columns : columns_of t ≡ c.args.width; reach : Reach c.args.width (take (c.loop-equality.equality-index + 1) c.args.equalities.now) (chart_of t) }) (sym w.frame-is)
-          (record { shaped = more.reduction.shaped; columns = columns-more n e (chart_of s) w.in-Framed.next reached.chart.base reached.chart.pair more; reach = Reach-more n c.args.equalities.now i e (chart_of s) w.in-Framed.next lt is inv.reach more }) ]
+          (record { shaped = more.reduction.shaped; columns = columns-more n e (chart_of s) w.in-Framed.next reached.chart.base reached.chart.pair more; reach = Reach-more n c.args.equalities.now i e (chart_of s) w.in-Framed.next lt is inv.reach more })
+    ]
 
 pub returns-clause-ok : goal.returns-clause-ok
 returns-clause-ok c =

@@ -1,6 +1,6 @@
-use Rattle.std.proofs.Common.{◌≡◌, ◌∙◌, [], List, ℤ, length, get_or, sym, ap, ap₂, subst, SFits, to_z-of_z}
+use Rattle.std.proofs.Common.{◌≡◌, ◌∙◌, [], List, ℤ, length, get_or, sym, ap₂, subst, SFits, to_z-of_z}
 use Rattle.std.specs.Int.{w128}
-use Rattle.std.specs.Prelude.{IfErr, IfOk}
+use Rattle.std.specs.Prelude.{IfOk}
 use Rattle.exact_math.specs.Ring.{integers}
 use Rattle.exact_vectors.specs.Matrices.{times_vector}
 use Rattle.spaces.specs.Tables.{Table, rows_in}

@@ -1,14 +1,11 @@
-use Rattle.std.proofs.Common.{◌≡◌, ◌+◌, ◌∙◌, ℤ, pos, length, map, replicate, SFits, sym, ap, ap₂, subst, rules, to_z-of_z}
+use Rattle.std.proofs.Common.{◌∙◌, ℤ, pos, map, replicate, SFits, sym, ap, ap₂, subst, to_z-of_z}
 use Rattle.std.specs.Int.{w128}
 use Rattle.std.specs.List.{remove}
 use Rattle.exact_math.specs.Ring.{integers}
 use Rattle.exact_vectors.specs.Matrices.{column, times_matrix}
-use Rattle.exact_vectors.specs.MatrixLaws.{length-zeros}
-use Rattle.exact_vectors.specs.Vectors.{zeros}
 use Rattle.spaces.specs.Maps.{AffineMap, CompositionStays, IsComposed}
 use Rattle.spaces.specs.Multiples.{with_multiple}
 use Rattle.spaces.specs.Tables.{Table, rows_in}
-use Rattle.unimodular_pair.specs.PairLaws.{length-column}
 use Rattle.unimodular_pair.specs.Pairs.{AreInverse}
 use Rattle.reformulate.proofs.ProductSteps.{stop_handed_on}
 use Rattle.reformulate.proofs.SliceSteps.{back_stays, composition_stays, is_applied, slice_length}

@@ -1,0 +1,86 @@
+#!/usr/bin/env bash
+# Prints what the frame of a market split model takes: 1 to 5 equalities in 10 to 50 columns, whose factors are below 100 and whose
+# sides are half their sums, drawn by the generator of Lehmer. For each it prints the milliseconds and whether it was an excuse. It
+# builds in a temporary folder, and runs the program as it stands, without its proof.
+set -euo pipefail
+top=$(cd "$(dirname "$0")/.." && pwd)
+work=$(mktemp -d)
+trap 'rm -rf "$work"' EXIT
+
+bench=$work/crates/frame_bench
+mkdir -p "$bench/src"
+lower="sequence exact_math exact_vectors gram_minors spaces unimodular_pair lattice_reduce reformulate"
+for crate in $lower; do
+    mkdir "$work/crates/$crate"
+    for part in src specs proofs; do
+        [ ! -d "$top/crates/$crate/$part" ] || cp -r "$top/crates/$crate/$part" "$work/crates/$crate/"
+    done
+    grep "^$crate:" "$top/crates.txt" >> "$work/crates.txt"
+done
+echo "frame_bench: $lower" >> "$work/crates.txt"
+
+cat > "$bench/src/main.rt" <<'MAIN'
+#![tactic(auto)]
+
+use reformulate::{Equalities, Equality, Frame, FrameExcuse, FrameStop, Framed};
+use sequence::NoMemory;
+use spaces::Form;
+use std::alloc::Global;
+use std::io;
+use std::time::Instant;
+
+fn next(state: u64) -> u64 {
+    state.wrapping_mul(48271) % 2147483647
+}
+
+// The equalities of a market of so many rows and columns, with this start.
+fn market(alloc: Global, rows: usize, columns: usize, start: u64) -> Result<Equalities, NoMemory> {
+    let mut equalities = Equalities::new(alloc);
+    let mut state = start;
+    for _row in 0..rows {
+        let mut items = Vec::with_capacity(alloc, columns)?;
+        let mut sum = 0i128;
+        for _column in 0..columns {
+            state = next(state);
+            let factor = i128::from(state % 100);
+            sum = sum.wrapping_add(factor);
+            items.push(factor)?;
+        }
+        let form = Form::of(items);
+        equalities.push(Equality {
+            form,
+            side: sum / 2,
+        })?;
+    }
+    Ok(equalities)
+}
+
+fn answer(framed: Result<Framed, FrameStop>) -> &'static str {
+    match framed {
+        Ok(Framed::Frame(_frame)) => "a frame",
+        Ok(Framed::NoIntegerPoint) => "no integer point",
+        Err(FrameStop::Excuse(FrameExcuse::Reduce(_excuse))) => "an excuse of the reduction",
+        Err(FrameStop::Excuse(FrameExcuse::Product(_steps))) => "an excuse of a product",
+        Err(FrameStop::NoMemory) => "no memory",
+    }
+}
+
+fn main(rt: HostRuntime) -> io::Result<()> {
+    for rows in [1usize, 2, 3, 4, 5] {
+        for columns in [10usize, 20, 30, 40, 50] {
+            let Ok(equalities) = market(rt.alloc(), rows, columns, 1) else {
+                return Ok(());
+            };
+            let start = Instant::now(&rt)?;
+            let framed = Frame::of(rt.alloc(), columns, &equalities);
+            let milli = start.elapsed(&rt)?.as_nanos() / 1000000;
+            let kind = answer(framed);
+            println!(rt; "frames: {rows} rows, {columns} columns: {milli} ms, {kind}")?;
+        }
+    }
+    Ok(())
+}
+MAIN
+
+(cd "$bench" && rt try > "$work/log" 2>&1) || { tail -n 40 "$work/log"; exit 1; }
+grep '^frames: ' "$work/log"
