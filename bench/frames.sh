@@ -1,14 +1,14 @@
 #!/usr/bin/env bash
 # Prints what the frame of a market split model takes: 1 to 5 equalities in 10 to 50 columns, whose factors are below 100 and whose
 # sides are half their sums, drawn by the generator of Lehmer. For each it prints the milliseconds and whether it was an excuse. It
-# builds in a temporary folder, and runs the program as it stands, without its proof.
+# builds in a temporary folder.
 set -euo pipefail
 top=$(cd "$(dirname "$0")/.." && pwd)
 work=$(mktemp -d)
 trap 'rm -rf "$work"' EXIT
 
 bench=$work/crates/frame_bench
-mkdir -p "$bench/src"
+mkdir -p "$bench"/{src,specs,proofs/{market,row}}
 lower="sequence exact_math exact_vectors gram_minors spaces unimodular_pair lattice_reduce reformulate"
 for crate in $lower; do
     mkdir "$work/crates/$crate"
@@ -19,8 +19,28 @@ for crate in $lower; do
 done
 echo "frame_bench: $lower" >> "$work/crates.txt"
 
+cat > "$bench/proofs/market/Invariants.antt" <<'PROOFS'
+use Rattle.std.proofs.Common.{◌≡◌, length, All}
+use Rattle.reformulate.specs.declared.equality.Equality.{Equality}
+use Rattle.frame_bench.proofs.market.Given as goal
+
+abbrev pub invariant-loop-_row : goal.invariant-loop-_row
+invariant-loop-_row l = All (λ (equality : Equality). length equality.form ≡ l.columns) l.equalities
+PROOFS
+
+cat > "$bench/proofs/row/Invariants.antt" <<'PROOFS'
+use Rattle.std.proofs.Common.{◌≡◌, vec_len}
+use Rattle.frame_bench.proofs.row.Given as goal
+
+abbrev pub invariant-loop-column : goal.invariant-loop-column
+invariant-loop-column l = vec_len l.items ≡ l.column
+PROOFS
+
 cat > "$bench/src/main.rt" <<'MAIN'
 #![tactic(auto)]
+
+ghost use Rattle.std.specs.List.{All};
+ghost use Rattle.std.specs.Prelude.{◌≡◌, ◌≤◌, length, IfOk};
 
 use reformulate::{Equalities, Equality, Frame, FrameExcuse, FrameStop, Framed};
 use sequence::NoMemory;
@@ -33,24 +53,39 @@ fn next(state: u64) -> u64 {
     state.wrapping_mul(48271) % 2147483647
 }
 
-// The equalities of a market of so many rows and columns, with this start.
-fn market(alloc: Global, rows: usize, columns: usize, start: u64) -> Result<Equalities, NoMemory> {
-    let mut equalities = Equalities::new(alloc);
+// A row of the market after this state, and the state after it.
+fn row(alloc: Global, columns: usize, start: u64) -> Result<(Equality, u64), NoMemory>
+    ensures { IfOk result (λ drawn. length drawn.0.form ≡ columns) }
+{
+    let mut items = Vec::with_capacity(alloc, columns)?;
     let mut state = start;
-    for _row in 0..rows {
-        let mut items = Vec::with_capacity(alloc, columns)?;
-        let mut sum = 0i128;
-        for _column in 0..columns {
-            state = next(state);
-            let factor = i128::from(state % 100);
-            sum = sum.wrapping_add(factor);
-            items.push(factor)?;
-        }
-        let form = Form::of(items);
-        equalities.push(Equality {
+    let mut sum = 0i128;
+    for column in 0..columns {
+        state = next(state);
+        let factor = i128::from(state % 100);
+        sum = sum.wrapping_add(factor);
+        items.push(factor)?;
+    }
+    let form = Form::of(items);
+    Ok((
+        Equality {
             form,
             side: sum / 2,
-        })?;
+        },
+        state,
+    ))
+}
+
+// The equalities of a market of so many rows and columns.
+fn market(alloc: Global, rows: usize, columns: usize) -> Result<Equalities, NoMemory>
+    ensures { IfOk result (λ equalities. All (λ equality. length equality.form ≡ columns) equalities) }
+{
+    let mut equalities = Equalities::new(alloc);
+    let mut state = 1;
+    for _row in 0..rows {
+        let (equality, after) = row(alloc, columns, state)?;
+        equalities.push(equality)?;
+        state = after;
     }
     Ok(equalities)
 }
@@ -67,8 +102,9 @@ fn answer(framed: Result<Framed, FrameStop>) -> &'static str {
 
 fn main(rt: HostRuntime) -> io::Result<()> {
     for rows in [1usize, 2, 3, 4, 5] {
-        for columns in [10usize, 20, 30, 40, 50] {
-            let Ok(equalities) = market(rt.alloc(), rows, columns, 1) else {
+        for tens in 1usize..6 {
+            let columns = 10 * tens;
+            let Ok(equalities) = market(rt.alloc(), rows, columns) else {
                 return Ok(());
             };
             let start = Instant::now(&rt)?;
@@ -82,5 +118,5 @@ fn main(rt: HostRuntime) -> io::Result<()> {
 }
 MAIN
 
-(cd "$bench" && rt try > "$work/log" 2>&1) || { tail -n 40 "$work/log"; exit 1; }
+(cd "$bench" && rt run > "$work/log" 2>&1) || { tail -n 40 "$work/log"; exit 1; }
 grep '^frames: ' "$work/log"
