@@ -485,10 +485,7 @@ fn a_model_of_the_greatest_size_is_solved(rt: HostRuntime) -> Result<(), Fail> {
         desk.said()
             .starts_with(b"OPTIMAL\nVALUE 0\nPOINT 1 x0\nPOINT 1 x1\n")
     );
-    assert!(rt;
-        desk.said()
-            .ends_with(b"\nPOINT 1 x255\nNODES 1\nPLAIN 0\n")
-    );
+    assert!(rt; desk.said().ends_with(b"\nPOINT 1 x255\nNODES 1\nPLAIN 0\n"));
     Ok(())
 }
 
