@@ -12,7 +12,7 @@ same : (c : In_ok-tree) → c.whole.result.now ≡ rows_of c.args.model.now
 same c = c.whole.ensures ∙ ap (λ (rows : IntegerRows). rows.whole) c.requires.rows
 
 -- the root is split by single columns
-plain : (c : In_ok-tree) → Bool
+abbrev plain : (c : In_ok-tree) → Bool
 plain c = c.in_ok-tree.ensures.found.0
 
 found : (c : In_ok-tree) → IsFound (IsAllowed (rows_of c.args.model.now)) (rows_of c.args.model.now) (plain c) c.args.nodes c.in_ok-tree.field-0
