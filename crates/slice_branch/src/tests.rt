@@ -34,10 +34,13 @@ fn two_columns(
     let bounds = [Bounds { low: 0, high: most }; 2];
     let mut rows = DenseRows::new(alloc, bounds.to_vec(alloc)?)?;
     for row in sided {
-        if rows.rows() >= 256 {
+        if row.factors.len() != rows.columns() || rows.rows() >= 256 {
             return Err("no room for a row")?;
         }
         rows.push_row(&row.factors, row.low, row.high)?;
+    }
+    if cost.len() != rows.columns() {
+        return Err("a cost for each column")?;
     }
     rows.set_cost(&cost)?;
     Ok(rows)
