@@ -23,7 +23,7 @@ done
 echo "range_bench: $lower" >> "$work/crates.txt"
 
 solve=$work/crates/lp_solve
-sed -i -E '/^    (requires bounded|ensures (solved|empty|stopped)) /d' "$solve/src/solve.rt"
+sed -i -E '/^    (requires bounded|ensures (solved|empty|pivots|stopped)) /d' "$solve/src/solve.rt"
 answers=$solve/proofs/solve/minimise_with_pivots/Answers.antt
 awk 'BEGIN { RS = ""; ORS = "\n\n" } !/^pub returns/' "$top/crates/lp_solve/proofs/solve/minimise_with_pivots/Answers.antt" > "$answers"
 
