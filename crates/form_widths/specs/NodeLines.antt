@@ -30,7 +30,7 @@ margin rows path end line = whole (shortfall rows path end line) /ℚ whole (tim
 -- the line refutes the end at the node with this cut, and uses no other cut
 pub record RefutesEnd (rows : WholeRows) (path : List Slice) (cut : Option ℤ) (end : Inequality) (line : Line) : Type 0 where
   pub refutes : Refutes rows path (Some end) line
-  pub same_cut : IfSome line.cut (λ (use : CutUse). cut ≡ Some use.value)
+  pub same_cut : IfSome line.cut (λ (used_cut : CutUse). cut ≡ Some used_cut.value)
 
 -- Rows and a path of one number of columns, a form over them, and lines that refute the values of the form below `lo` and from `lo + count` on.
 pub record HasClosedEnds (rows : WholeRows) (path : List Slice) (cut : Option ℤ) (form : List ℤ) (lo count : ℤ) (line_below line_above : Line) : Type 0 where
