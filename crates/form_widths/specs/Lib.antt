@@ -6,3 +6,8 @@ pub mod Inequalities
 pub mod Lines
 pub mod NodeLines
 pub mod Means
+pub mod RationalOrderLaws
+pub mod SliceLaws
+pub mod FormLaws
+pub mod WidthLaws
+pub mod LineLaws

@@ -1,6 +1,6 @@
 //! The laws of widths and slices on any region, and of the room about a mean in a region of linear inequalities.
-ghost use Rattle.std.specs.Prelude.{◌≡◌, ◌↔◌, ℕ, ◌*◌, ◌<◌, ℤ, pos, ◌+ℤ◌, ◌-ℤ◌, ◌<ℤ◌, List, All, length};
-ghost use Rattle.exact_math.specs.Rational.{ℚ, whole, ◌+ℚ◌, ◌-ℚ◌, ◌*ℚ◌, ◌/ℚ◌, ◌≤ℚ◌};
+ghost use Rattle.std.specs.Prelude.{◌≡◌, ◌↔◌, ℕ, ◌*◌, ◌<◌, ℤ, pos, ◌+ℤ◌, ◌-ℤ◌, ◌≤ℤ◌, ◌<ℤ◌, List, All, length};
+ghost use Rattle.exact_math.specs.Rational.{ℚ, whole, ◌+ℚ◌, neg_ℚ, ◌-ℚ◌, ◌*ℚ◌, ◌/ℚ◌, ◌≤ℚ◌};
 ghost use Rattle.exact_vectors.specs.Matrices.{HasWidth};
 ghost use Rattle.farkas_rows.specs.Inequalities.{Inequality, at_most, at_least};
 ghost use Rattle.node_point.specs.RationalPoints.{form_value};
@@ -32,9 +32,9 @@ pub fn widths_are_compared<I>()
 
 /// Multipliers that combine inequalities and an end of a form to a shortfall bound the form on that side, by the shortfall over the multiplier of the end.
 pub fn end_lines()
-    ensures past_end { (columns : ℕ) (inequalities : List Inequality) (times : List ℤ) (end : Inequality) (end_times shortfall : ℤ) (x : List ℚ)
+    ensures past_end { (columns : ℕ) (inequalities : List Inequality) (times : List ℤ) (end : Inequality) (end_times shortfall : ℤ) (x : List ℚ) → pos 0 ≤ℤ end_times
         → FallsShort columns inequalities times end end_times shortfall → All (IsMetAt x) inequalities
-        → (whole shortfall +ℚ (whole end_times *ℚ slack end x)) ≤ℚ whole (pos 0) }
+        → whole shortfall ≤ℚ (neg_ℚ (slack end x) *ℚ whole end_times) }
     ensures least { (columns : ℕ) (inequalities : List Inequality) (times form : List ℤ) (side end_times shortfall : ℤ) (x : List ℚ) → pos 0 <ℤ end_times
         → FallsShort columns inequalities times (at_most form side) end_times shortfall → All (IsMetAt x) inequalities
         → (whole side +ℚ (whole shortfall /ℚ whole end_times)) ≤ℚ form_value form x }
