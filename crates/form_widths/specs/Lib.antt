@@ -11,3 +11,7 @@ pub mod SliceLaws
 pub mod FormLaws
 pub mod WidthLaws
 pub mod LineLaws
+pub mod NodePointLaws
+pub mod NodeLineLaws
+pub mod PulledLaws
+pub mod MeanLaws

@@ -1,5 +1,5 @@
 //! The laws of widths and slices on any region, and of the room about a mean in a region of linear inequalities.
-ghost use Rattle.std.specs.Prelude.{◌≡◌, ◌↔◌, ℕ, ◌*◌, ◌<◌, ℤ, pos, ◌+ℤ◌, ◌-ℤ◌, ◌≤ℤ◌, ◌<ℤ◌, List, All, length};
+ghost use Rattle.std.specs.Prelude.{◌≡◌, ◌↔◌, ℕ, ◌*◌, ◌<◌, ℤ, pos, neg_ℤ, ◌-ℤ◌, ◌≤ℤ◌, ◌<ℤ◌, List, All, length};
 ghost use Rattle.exact_math.specs.Rational.{ℚ, whole, ◌+ℚ◌, neg_ℚ, ◌-ℚ◌, ◌*ℚ◌, ◌/ℚ◌, ◌≤ℚ◌};
 ghost use Rattle.exact_vectors.specs.Matrices.{HasWidth};
 ghost use Rattle.farkas_rows.specs.Inequalities.{Inequality, at_most, at_least};
@@ -8,7 +8,7 @@ ghost use Rattle.form_widths.specs.Widths.{IsBoundOn, IsNoWiderThan, IsNonzero};
 ghost use Rattle.form_widths.specs.Slices.{AreSlices, ReachesEnds, StaysBetween};
 ghost use Rattle.form_widths.specs.Rooms.{HasRoom};
 ghost use Rattle.form_widths.specs.Families.{PointsOf};
-ghost use Rattle.form_widths.specs.Inequalities.{IsMetAt, IsSolution, point_over, pulled, slack};
+ghost use Rattle.form_widths.specs.Inequalities.{HasMatches, IsMetAt, IsSolution, point_over, pulled, slack};
 ghost use Rattle.form_widths.specs.Lines.{FallsShort};
 ghost use Rattle.form_widths.specs.Means.{LeavesRoom, mean, room_of};
 
@@ -51,18 +51,17 @@ pub fn mean_has_room()
         → HasRoom (IsSolution n inequalities) (mean n points) (room_of scale reach room points) }
 {}
 
-/// An inequality at x0 + K y is one in y. Where points y of one region stand for points x of another, and the form at x is another form at y and a whole
-/// constant, bounds on the width and slices are those of the other form.
+/// An inequality at x0 + K y is one in y. Where each point y of one region has a point x of another at which the form is that at y and a whole constant, a
+/// bound on the width there is one here; and with the points the other way round the slices are the same, moved by the constant.
 pub fn pulled_regions<I, J>()
     ensures met { (r : ℕ) (base : List ℤ) (lines : List (List ℤ)) (inequality : Inequality) (y : List ℚ) → HasWidth r lines
         → length base ≡ length lines → IsMetAt (point_over base lines y) inequality ↔ IsMetAt y (pulled r base lines inequality) }
     ensures slacks { (r : ℕ) (base : List ℤ) (lines : List (List ℤ)) (inequality : Inequality) (y : List ℚ) → HasWidth r lines
         → length base ≡ length lines → slack (pulled r base lines inequality) y ≡ slack inequality (point_over base lines y) }
-    ensures widths { (point : I → List ℚ) (image : J → List ℚ) (form pulled_form : List ℤ) (constant : ℤ) (bound : ℚ) (to : J → I)
-        → ((j : J) → form_value form (point (to j)) ≡ form_value pulled_form (image j) +ℚ whole constant)
-        → IsBoundOn (PointsOf point) form bound → IsBoundOn (PointsOf image) pulled_form bound }
-    ensures slices { (point : I → List ℚ) (image : J → List ℚ) (form pulled_form : List ℤ) (constant lo count : ℤ) (to : J → I) (back : I → J)
-        → ((i : I) → point (to (back i)) ≡ point i)
-        → ((j : J) → form_value form (point (to j)) ≡ form_value pulled_form (image j) +ℚ whole constant)
-        → AreSlices (PointsOf point) form lo count → AreSlices (PointsOf image) pulled_form (lo -ℤ constant) count }
+    ensures widths { (point : I → List ℚ) (inner : J → List ℚ) (form pulled_form : List ℤ) (constant : ℤ) (bound : ℚ)
+        → HasMatches (PointsOf inner) pulled_form (PointsOf point) form constant → IsBoundOn (PointsOf point) form bound
+        → IsBoundOn (PointsOf inner) pulled_form bound }
+    ensures slices { (point : I → List ℚ) (inner : J → List ℚ) (form pulled_form : List ℤ) (constant lo count : ℤ)
+        → HasMatches (PointsOf inner) pulled_form (PointsOf point) form constant → HasMatches (PointsOf point) form (PointsOf inner) pulled_form (neg_ℤ constant)
+        → AreSlices (PointsOf point) form lo count → AreSlices (PointsOf inner) pulled_form (lo -ℤ constant) count }
 {}
