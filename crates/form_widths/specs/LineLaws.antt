@@ -110,7 +110,7 @@ met-missed x miss (i ∷ inequalities) h =
     nothing v l m = ring rationals (v ∷ l ∷ m ∷ []) (search reads depth 30) (search reads depth 30) refl
 
 -- the end is missed by minus its slack
-end-missed : (x : List ℚ) (end : Inequality) → IsMissedBy x (neg_ℚ (slack end x)) end (pos 1)
+pub end-missed : (x : List ℚ) (end : Inequality) → IsMissedBy x (neg_ℚ (slack end x)) end (pos 1)
 end-missed x end = le_by _ _ _ _ (le_refl (whole (pos 0))) (exact (form_value end.factors x) (whole end.limit))
   where
     exact : (v l : ℚ) → (l +ℚ neg_ℚ (l -ℚ v) *ℚ whole (pos 1)) -ℚ v ≡ whole (pos 0) -ℚ whole (pos 0)
