@@ -31,6 +31,10 @@ pulled r base lines inequality = record {
   limit = inequality.limit -ℤ dot integers inequality.factors base;
 }
 
+-- y has r coordinates, and x0 + K y meets each inequality
+abbrev pub IsSolutionOver : ℕ → List ℤ → List (List ℤ) → List Inequality → List ℚ → Type 0
+IsSolutionOver r base lines inequalities y = (length y ≡ r) × All (IsMetAt (point_over base lines y)) inequalities
+
 -- For each point y of the one region the other has a point x at which the form is, by `constant`, more than the pulled form at y.
 abbrev pub HasMatches : (List ℚ → Type 0) → List ℤ → (List ℚ → Type 0) → List ℤ → ℤ → Type 0
 HasMatches inner pulled_form region form constant =

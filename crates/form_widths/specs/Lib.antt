@@ -15,3 +15,5 @@ pub mod NodePointLaws
 pub mod NodeLineLaws
 pub mod PulledLaws
 pub mod MeanLaws
+pub mod FixedPointLaws
+pub mod MeanOverLaws
