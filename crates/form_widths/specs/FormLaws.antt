@@ -6,11 +6,11 @@ use Rattle.exact_math.specs.Ring.{integers}
 use Rattle.exact_math.specs.RingSolver.{ring, reads}
 use Rattle.exact_math.specs.Rational.{ℚ, whole, ◌+ℚ◌, neg_ℚ, ◌-ℚ◌, ◌*ℚ◌}
 use Rattle.exact_math.specs.RationalRing.{rationals}
-use Rattle.exact_vectors.specs.Vectors.{dot, negate, zeros}
+use Rattle.exact_vectors.specs.Vectors.{dot, negate, scale, zeros}
 use Rattle.exact_vectors.specs.DotLaws as Dot
 use Rattle.farkas_rows.specs.Inequalities.{unit}
 use Rattle.node_point.specs.RationalPoints.{form_value}
-use Rattle.whole_vectors.specs.WholeVectorLaws.{map_whole-negate, map_whole-zeros}
+use Rattle.whole_vectors.specs.WholeVectorLaws.{map_whole-negate, map_whole-scale, map_whole-zeros}
 use Rattle.form_widths.specs.Rooms.{moved}
 
 -- the form of zeros
@@ -20,6 +20,10 @@ form_value-zeros n x = ap (λ v. dot rationals v x) (map_whole-zeros n) ∙ Dot.
 -- the form with the other sign
 pub form_value-negate : (form : List ℤ) (x : List ℚ) → form_value (negate integers form) x ≡ neg_ℚ (form_value form x)
 form_value-negate form x = ap (λ v. dot rationals v x) (map_whole-negate form) ∙ Dot.dot-negate_left rationals (map whole form) x
+
+-- a multiple of the form
+pub form_value-scale : (k : ℤ) (form : List ℤ) (x : List ℚ) → form_value (scale integers k form) x ≡ whole k *ℚ form_value form x
+form_value-scale k form x = ap (λ v. dot rationals v x) (map_whole-scale k form) ∙ Dot.dot-scale_left rationals (whole k) (map whole form) x
 
 -- the form of one column has its value
 pub form_value-unit : (columns column : ℕ) (x : List ℚ) → length x ≡ columns → column < columns → form_value (unit columns column) x ≡ get_or x column (whole (pos 0))

@@ -1,18 +1,21 @@
 -- Widths are compared by points of the region: by one with room in each coordinate, or by two that differ in the other form.
-use Rattle.std.proofs.Common.{◌≡◌, ◌≢◌, ◌⊎◌, inl, inr, ⊎_elim, ℕ, zero, suc, ◌<◌, ◌≤◌, ℤ, pos, negsuc, neg_ℤ, List, [], ◌∷◌, length, get_or, refl, sym, ap, ◌∙◌, subst, subst₂, arith}
+use Rattle.std.proofs.Common.{◌≡◌, ◌≢◌, ◌⊎◌, inl, inr, ⊎_elim, ℕ, zero, suc, ◌<◌, ◌≤◌, ℤ, pos, negsuc, neg_ℤ, List, [], ◌∷◌, length, get_or, refl, sym, ap, ap₂, ◌∙◌, subst, subst₂, arith}
 use Rattle.std.specs.Prelude.{All}
 use Rattle.std.proofs.lemmas.List.Elements.{All-nil, All-cons}
 use Rattle.exact_math.specs.IntegerRing.{linear}
 use Rattle.exact_math.specs.OrderedRing as Ordered
-use Rattle.exact_math.specs.Rational.{ℚ, whole, ◌+ℚ◌, neg_ℚ, ◌-ℚ◌, ◌*ℚ◌, ◌≤ℚ◌, ◌<ℚ◌}
+use Rattle.exact_math.specs.Rational.{ℚ, whole, inv_ℚ, ◌+ℚ◌, neg_ℚ, ◌-ℚ◌, ◌*ℚ◌, ◌/ℚ◌, ◌≤ℚ◌, ◌<ℚ◌}
 use Rattle.exact_math.specs.RationalOrder.{le_of_lt, le_or_lt, le_trans, mul_le, mul_nonneg, rationals_are_ordered, whole_le}
 use Rattle.exact_math.specs.RationalRing.{rationals}
 use Rattle.exact_math.specs.RingLaws as Laws
 use Rattle.exact_math.specs.RingSolver.{ring, reads}
+use Rattle.exact_math.specs.Ring.{integers}
+use Rattle.exact_vectors.specs.Vectors.{scale}
 use Rattle.node_point.specs.RationalPoints.{form_value}
+use Rattle.whole_vectors.specs.ClearedLaws.{inverse-mul}
 use Rattle.whole_vectors.specs.WholeVectorLaws.{whole_neg}
-use Rattle.form_widths.specs.FormLaws.{form_value-moved}
-use Rattle.form_widths.specs.RationalOrderLaws.{le-multiple, le_by}
+use Rattle.form_widths.specs.FormLaws.{form_value-moved, form_value-scale}
+use Rattle.form_widths.specs.RationalOrderLaws.{inverse-nonneg, le-multiple, le_by}
 use Rattle.form_widths.specs.Rooms.{HasRoom, moved}
 use Rattle.form_widths.specs.Widths.{IsBoundOn, IsNoWiderThan, IsNonzero}
 
@@ -106,3 +109,22 @@ no_wider_by_room region p rho width factor form other room bounded small long so
 pub no_wider_by_points : (region : List ℚ → Type 0) (y z : List ℚ) (width : ℚ) (form other : List ℤ) → IsBoundOn region form width → region y → region z → width ≤ℚ (form_value other y -ℚ form_value other z) → IsNoWiderThan 1 region form other
 no_wider_by_points region y z width form other bounded in_y in_z far bound within u v in_u in_v =
     le_trans _ _ _ (bounded u v in_u in_v) (le_trans _ _ _ far (subst (λ t. (form_value other y -ℚ form_value other z) ≤ℚ t) (sym (Laws.one_mul rationals bound)) (within y z in_y in_z)))
+
+-- The same by points that differ in a multiple of the other form by as many times the width.
+pub no_wider_by_multiple : (region : List ℚ → Type 0) (y z : List ℚ) (width : ℚ) (times : ℕ) (form other : List ℤ) → 0 < times → IsBoundOn region form width → region y → region z → (whole (pos times) *ℚ width) ≤ℚ (form_value (scale integers (pos times) other) y -ℚ form_value (scale integers (pos times) other) z) → IsNoWiderThan 1 region form other
+no_wider_by_multiple region y z width times form other some bounded in_y in_z far =
+    let t = whole (pos times) in
+    let i = inv_ℚ (whole (pos times)) in
+    let part = mul_le (whole (pos 1) /ℚ whole (pos times)) (t *ℚ width) (form_value (scale integers (pos times) other) y -ℚ form_value (scale integers (pos times) other) z) (inverse-nonneg times some) far in
+    let values = ap₂ (λ (u v : ℚ). u -ℚ v) (form_value-scale (pos times) other y) (form_value-scale (pos times) other z) in
+    no_wider_by_points region y z width form other bounded in_y in_z
+    (subst₂ ◌≤ℚ◌ (undone i t width (inverse-mul times some)) (ap (λ q. (whole (pos 1) *ℚ i) *ℚ q) values ∙ apart i t (form_value other y) (form_value other z) ∙ undone i t (form_value other y -ℚ form_value other z) (inverse-mul times some)) part)
+  where
+    together : (i t w : ℚ) → (whole (pos 1) *ℚ i) *ℚ (t *ℚ w) ≡ (i *ℚ t) *ℚ w
+    together i t w = ring rationals (i ∷ t ∷ w ∷ []) (search reads depth 30) (search reads depth 30) refl
+
+    undone : (i t w : ℚ) → i *ℚ t ≡ whole (pos 1) → (whole (pos 1) *ℚ i) *ℚ (t *ℚ w) ≡ w
+    undone i t w e = together i t w ∙ ap (λ q. q *ℚ w) e ∙ Laws.one_mul rationals w
+
+    apart : (i t u v : ℚ) → (whole (pos 1) *ℚ i) *ℚ (t *ℚ u -ℚ t *ℚ v) ≡ (whole (pos 1) *ℚ i) *ℚ (t *ℚ (u -ℚ v))
+    apart i t u v = ring rationals (i ∷ t ∷ u ∷ v ∷ []) (search reads depth 30) (search reads depth 30) refl

@@ -5,7 +5,7 @@ ghost use Rattle.exact_math.specs.Rational.{ℚ, whole, ◌+ℚ◌, neg_ℚ, ◌
 ghost use Rattle.exact_math.specs.RationalRing.{rationals};
 ghost use Rattle.exact_math.specs.Ring.{integers};
 ghost use Rattle.exact_vectors.specs.Matrices.{HasWidth, times_vector};
-ghost use Rattle.exact_vectors.specs.Vectors.{dot, sum};
+ghost use Rattle.exact_vectors.specs.Vectors.{dot, scale, sum};
 ghost use Rattle.farkas_rows.specs.Inequalities.{Inequality, at_most, at_least};
 ghost use Rattle.node_point.specs.NodePoints.{Fractions};
 ghost use Rattle.node_point.specs.RationalPoints.{coordinates, form_value};
@@ -24,7 +24,7 @@ pub fn slices_are_shown<I>()
 {}
 
 /// How a width is compared with others: a point with room in each coordinate bounds every width from below, and two points bound the width of the form in
-/// which they differ.
+/// which they differ, or of which they differ in a multiple.
 pub fn widths_are_compared<I>()
     ensures room { (point : I → List ℚ) (p : List ℚ) (rho : ℚ) (other : List ℤ) (bound : ℚ) → HasRoom (PointsOf point) p rho → length other ≡ length p
         → IsNonzero other → IsBoundOn (PointsOf point) other bound → (whole (pos 2) *ℚ rho) ≤ℚ bound }
@@ -33,6 +33,10 @@ pub fn widths_are_compared<I>()
         → IsNoWiderThan factor (PointsOf point) form other }
     ensures by_points { (point : I → List ℚ) (y z : List ℚ) (width : ℚ) (form other : List ℤ) → IsBoundOn (PointsOf point) form width → PointsOf point y
         → PointsOf point z → width ≤ℚ (form_value other y -ℚ form_value other z) → IsNoWiderThan 1 (PointsOf point) form other }
+    ensures by_multiple { (point : I → List ℚ) (y z : List ℚ) (width : ℚ) (times : ℕ) (form other : List ℤ) → 0 < times → IsBoundOn (PointsOf point) form width
+        → PointsOf point y → PointsOf point z
+        → (whole (pos times) *ℚ width) ≤ℚ (form_value (scale integers (pos times) other) y -ℚ form_value (scale integers (pos times) other) z)
+        → IsNoWiderThan 1 (PointsOf point) form other }
 {}
 
 /// Multipliers that combine inequalities and an end of a form to a shortfall bound the form on that side, by the shortfall over the multiplier of the end.
