@@ -1,11 +1,11 @@
 -- Slacks in fixed point: whole numbers that are at most a slack, in parts of 1/scale.
-use Rattle.std.proofs.Common.{◌≡◌, ℕ, ◌+◌, ◌*◌, ◌<◌, ℤ, pos, negsuc, ◌+ℤ◌, ◌-ℤ◌, ◌*ℤ◌, ◌≤ℤ◌, ◌<ℤ◌, List, [], ◌∷◌, length, map, refl, sym, ap, ap₂, ◌∙◌, subst, subst₂, arith}
+use Rattle.std.proofs.Common.{◌≡◌, ℕ, ◌<◌, ℤ, pos, negsuc, ◌-ℤ◌, ◌*ℤ◌, ◌≤ℤ◌, ◌<ℤ◌, List, [], ◌∷◌, map, refl, sym, ap, ap₂, ◌∙◌, subst, subst₂}
 use Rattle.std.specs.List.{AllZip}
 use Rattle.exact_math.specs.IntegerRing.{linear}
 use Rattle.exact_math.specs.Ring.{integers}
 use Rattle.exact_math.specs.RingLaws as Laws
 use Rattle.exact_math.specs.RingSolver.{ring, reads}
-use Rattle.exact_math.specs.Rational.{ℚ, whole, inv_ℚ, ◌+ℚ◌, neg_ℚ, ◌-ℚ◌, ◌*ℚ◌, ◌/ℚ◌, ◌≤ℚ◌}
+use Rattle.exact_math.specs.Rational.{ℚ, whole, inv_ℚ, ◌-ℚ◌, ◌*ℚ◌, ◌/ℚ◌, ◌≤ℚ◌}
 use Rattle.exact_math.specs.RationalOrder.{add_le, le_refl, mul_le, whole_le}
 use Rattle.exact_math.specs.RationalRing.{rationals, mul_add, mul_comm, mul_one, whole_add, whole_mul}
 use Rattle.exact_vectors.specs.Vectors.{dot, scale, sum}

@@ -1,22 +1,19 @@
 -- Combinations of inequalities at a rational point, where some of them are missed by a known number.
-use Rattle.std.proofs.Common.{◌≡◌, ◌⊎◌, ⊎_elim, ℕ, zero, suc, ◌<◌, ℤ, pos, negsuc, neg_ℤ, ◌+ℤ◌, ◌*ℤ◌, ◌≤ℤ◌, ◌<ℤ◌, List, [], ◌∷◌, length, map, refl, sym, ap, ap₂, ◌∙◌, subst, subst₂, arith}
+use Rattle.std.proofs.Common.{◌≡◌, ℕ, suc, ◌<◌, ℤ, pos, negsuc, neg_ℤ, ◌≤ℤ◌, ◌<ℤ◌, List, [], ◌∷◌, length, map, refl, sym, ap, ap₂, ◌∙◌, subst, subst₂}
 use Rattle.std.specs.Prelude.{All}
 use Rattle.std.specs.List.{AllZip}
 use Rattle.std.proofs.lemmas.List.Elements.{All-head, All-tail, All-nil, All-cons}
 use Rattle.exact_math.specs.IntegerRing.{linear}
-use Rattle.exact_math.specs.OrderedRing as Ordered
 use Rattle.exact_math.specs.Ring.{integers}
 use Rattle.exact_math.specs.Rational.{ℚ, whole, inv_ℚ, ◌+ℚ◌, neg_ℚ, ◌-ℚ◌, ◌*ℚ◌, ◌/ℚ◌, ◌≤ℚ◌}
-use Rattle.exact_math.specs.RationalOrder.{le_from_whole, le_refl, le_trans, mul_le, rationals_are_ordered, whole_le}
+use Rattle.exact_math.specs.RationalOrder.{le_refl, mul_le, rationals_are_ordered, whole_le}
 use Rattle.exact_math.specs.RationalRing.{rationals, mul_one}
-use Rattle.exact_math.specs.RingLaws as Laws
 use Rattle.exact_math.specs.RingSolver.{ring, reads}
-use Rattle.exact_vectors.specs.Vectors.{add, dot, negate, scale, zeros}
-use Rattle.exact_vectors.specs.Matrices.{HasWidth, combination, times_vector}
+use Rattle.exact_vectors.specs.Vectors.{add, dot, scale, zeros}
+use Rattle.exact_vectors.specs.Matrices.{combination, times_vector}
 use Rattle.exact_vectors.specs.Inequalities.{NotNegative, NotNegativeBy}
 use Rattle.exact_vectors.specs.DotLaws as Dot
 use Rattle.exact_vectors.specs.OrderedVectorLaws as Vectors
-use Rattle.exact_vectors.specs.MatrixLaws as Matrices
 use Rattle.farkas_rows.specs.Inequalities.{Inequality, at_most, at_least}
 use Rattle.farkas_rows.specs.NodeLaws.{width-of_each}
 use Rattle.farkas_rows.specs.Refutes.{IsDense}

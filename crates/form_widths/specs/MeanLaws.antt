@@ -1,17 +1,17 @@
 -- The mean of points that meet inequalities has room there.
-use Rattle.std.proofs.Common.{◌≡◌, ◌⊎◌, inl, inr, ⊎_elim, ℕ, zero, suc, ◌*◌, ◌<◌, ◌≤◌, ℤ, pos, neg_ℤ, nat_abs, ◌+ℤ◌, ◌*ℤ◌, ◌≤ℤ◌, List, [], ◌∷◌, length, get_or, set, map, refl, sym, ap, ap₂, ◌∙◌, subst, subst₂, arith, mul-pos}
+use Rattle.std.proofs.Common.{◌≡◌, ⊎_elim, ℕ, zero, suc, ◌*◌, ◌<◌, ◌≤◌, ℤ, pos, neg_ℤ, nat_abs, ◌+ℤ◌, ◌*ℤ◌, ◌≤ℤ◌, List, [], ◌∷◌, length, get_or, map, refl, sym, ap, ◌∙◌, subst, subst₂, arith, mul-pos}
 use Rattle.std.specs.Prelude.{All}
-use Rattle.std.proofs.lemmas.List.{length-map, length-set}
+use Rattle.std.proofs.lemmas.List.{length-set}
 use Rattle.std.proofs.lemmas.List.Elements.{All-head, All-tail}
 use Rattle.exact_math.specs.IntegerOrder.{abs_bounds}
 use Rattle.exact_math.specs.IntegerRing.{linear}
 use Rattle.exact_math.specs.OrderedRing as Ordered
 use Rattle.exact_math.specs.Rational.{ℚ, whole, inv_ℚ, ◌+ℚ◌, neg_ℚ, ◌-ℚ◌, ◌*ℚ◌, ◌/ℚ◌, ◌≤ℚ◌}
 use Rattle.exact_math.specs.RationalOrder.{difference_from_le, le_refl, le_trans, mul_le, mul_nonneg, rationals_are_ordered, whole_le}
-use Rattle.exact_math.specs.RationalRing.{rationals, mul_one, whole_add, whole_mul}
+use Rattle.exact_math.specs.RationalRing.{rationals, whole_add, whole_mul}
 use Rattle.exact_math.specs.RingLaws as Laws
 use Rattle.exact_math.specs.RingSolver.{ring, reads}
-use Rattle.exact_vectors.specs.Vectors.{add, dot, scale, sum, zeros}
+use Rattle.exact_vectors.specs.Vectors.{scale, sum}
 use Rattle.exact_vectors.specs.DotLaws as Dot
 use Rattle.exact_vectors.specs.MatrixLaws as Matrices
 use Rattle.farkas_rows.specs.Inequalities.{Inequality}
@@ -21,7 +21,7 @@ use Rattle.whole_vectors.specs.WholeVectorLaws.{whole_neg}
 use Rattle.form_widths.specs.FormLaws.{form_value-moved}
 use Rattle.form_widths.specs.Inequalities.{IsMetAt, IsSolution, slack}
 use Rattle.form_widths.specs.Means.{HasSlack, LeavesRoom, mean, room_of, total}
-use Rattle.form_widths.specs.RationalOrderLaws.{inverse-nonneg, le_by, le_by_two}
+use Rattle.form_widths.specs.RationalOrderLaws.{inverse-nonneg, le_by}
 use Rattle.form_widths.specs.Rooms.{HasRoom, moved}
 
 -- ---- the mean

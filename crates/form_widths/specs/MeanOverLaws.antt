@@ -1,9 +1,9 @@
 -- The room of a mean in the coordinates y of the points x0 + K y that meet inequalities.
-use Rattle.std.proofs.Common.{◌≡◌, ℕ, ◌<◌, ℤ, List, [], ◌∷◌, length, map, neg_ℤ}
+use Rattle.std.proofs.Common.{◌≡◌, ℕ, ◌<◌, ℤ, List, [], ◌∷◌, length, map}
 use Rattle.std.specs.Prelude.{All}
 use Rattle.std.specs.List.{AllZip}
 use Rattle.std.proofs.lemmas.List.Elements.{All-nil, All-cons, All-head, All-map, All-tail, All-weaker}
-use Rattle.exact_math.specs.Rational.{ℚ, whole, neg_ℚ, ◌≤ℚ◌}
+use Rattle.exact_math.specs.Rational.{ℚ, whole, ◌≤ℚ◌}
 use Rattle.exact_math.specs.RationalRing.{rationals}
 use Rattle.exact_vectors.specs.Matrices.{HasWidth, times_vector}
 use Rattle.farkas_rows.specs.Inequalities.{Inequality}

@@ -1,6 +1,6 @@
 -- What a line that refutes an end of a form at a node says of the form at the node's rational points.
-use Rattle.std.proofs.Common.{◌≡◌, ◌≢◌, ℕ, zero, suc, ◌+◌, ◌*◌, ◌<◌, ◌==◌, Bool, true, false, ℤ, pos, negsuc, neg_ℤ, ◌+ℤ◌, ◌-ℤ◌, ◌*ℤ◌, ◌≤ℤ◌, ◌<ℤ◌, List, [], ◌∷◌, ◌++◌, length, get_or, map, refl, sym, ap, ap₂, ◌∙◌, subst, subst₂, arith, append_assoc, length-append, eqb-true}
-use Rattle.std.specs.Prelude.{Option, Some, None, IsSome, IfSome, All, flat_map, option_map, option_to_list, unwrap_or}
+use Rattle.std.proofs.Common.{◌≡◌, ◌≢◌, ℕ, zero, suc, ◌*◌, ◌==◌, Bool, true, false, ℤ, pos, negsuc, ◌+ℤ◌, ◌-ℤ◌, ◌*ℤ◌, ◌≤ℤ◌, ◌<ℤ◌, List, [], ◌∷◌, ◌++◌, length, get_or, map, refl, sym, ap, ap₂, ◌∙◌, subst, arith, append_assoc, length-append, eqb-true}
+use Rattle.std.specs.Prelude.{Option, Some, None, IsSome, IfSome, All, flat_map, unwrap_or}
 use Rattle.std.specs.List.{AllZip}
 use Rattle.std.proofs.Math.Seq.{get_or-append_seam}
 use Rattle.std.proofs.lemmas.Bool.{eqb-false}
@@ -12,25 +12,24 @@ use Rattle.exact_math.specs.RingLaws as Laws
 use Rattle.exact_math.specs.RingSolver.{ring, reads}
 use Rattle.exact_math.specs.Rational.{ℚ, whole, ◌+ℚ◌, neg_ℚ, ◌-ℚ◌, ◌*ℚ◌, ◌/ℚ◌, ◌≤ℚ◌, ◌<ℚ◌}
 use Rattle.exact_math.specs.RationalRing.{rationals, whole_add}
-use Rattle.exact_math.specs.RationalOrder.{le_refl, le_from_whole, lt_of_lt_of_le}
-use Rattle.exact_vectors.specs.Vectors.{dot, sum, negate}
-use Rattle.exact_vectors.specs.DotLaws as Dot
+use Rattle.exact_math.specs.RationalOrder.{le_from_whole}
+use Rattle.exact_vectors.specs.Vectors.{dot, sum}
 use Rattle.whole_rows.specs.declared.bounds.Bounds.{Bounds}
 use Rattle.whole_rows.specs.WholeRows.{WholeRow, WholeRows, IsWithinLimits}
 use Rattle.farkas_rows.specs.declared.line.Use.{Use}
 use Rattle.farkas_rows.specs.declared.line.CutUse.{CutUse}
 use Rattle.farkas_rows.specs.declared.line.Line.{Line}
 use Rattle.farkas_rows.specs.declared.path.Slice.{Slice}
-use Rattle.farkas_rows.specs.EachInequality.{EachHas, Has, at-each}
-use Rattle.farkas_rows.specs.Inequalities.{Inequality, at_most, at_least, below, above, row_sides, column_bounds, slice_sides, inequalities, inequality_at, cut_inequality}
+use Rattle.farkas_rows.specs.EachInequality.{Has, at-each}
+use Rattle.farkas_rows.specs.Inequalities.{Inequality, below, above, row_sides, column_bounds, slice_sides, inequalities, inequality_at, cut_inequality}
 use Rattle.farkas_rows.specs.NodeLaws.{length-negate, used-dense}
-use Rattle.farkas_rows.specs.Refutes.{IsDense, IsMultiplier, HasForms, Refutes, cut_inequalities, cut_times, multipliers, nothing, used}
+use Rattle.farkas_rows.specs.Refutes.{IsDense, IsMultiplier, HasForms, cut_inequalities, cut_times, multipliers, nothing, used}
 use Rattle.node_point.specs.RationalPoints.{form_value, IsRationalPoint}
 use Rattle.form_widths.specs.Inequalities.{IsMetAt, slack}
 use Rattle.form_widths.specs.LineLaws.{IsMissedBy, end-missed, greatest_by_miss, least_by_miss, miss-least, miss-quotient}
 use Rattle.form_widths.specs.NodeLines.{HasClosedEnds, RefutesEnd, end_number, margin, shortfall, times_of, width_between}
 use Rattle.form_widths.specs.NodePointLaws.{inequalities-met}
-use Rattle.form_widths.specs.RationalOrderLaws.{le_by, le_by_two, lt_by_margin, quotient-positive, lt_from_whole}
+use Rattle.form_widths.specs.RationalOrderLaws.{le_by, le_by_two, lt_by_margin, quotient-positive}
 use Rattle.form_widths.specs.SliceLaws.{slices_shown}
 use Rattle.form_widths.specs.Slices.{AreSlices, ReachesEnds, StaysBetween}
 use Rattle.form_widths.specs.Widths.{IsBoundOn}

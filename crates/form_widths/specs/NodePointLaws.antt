@@ -1,10 +1,10 @@
 -- A rational point of a node meets each of the node's inequalities.
-use Rattle.std.proofs.Common.{◌≡◌, ℕ, zero, suc, ◌+◌, ◌<◌, ℤ, pos, List, [], ◌∷◌, length, get_or, refl, sym, ap, ◌∙◌, subst, subst₂, arith, zero-add}
-use Rattle.std.specs.Prelude.{Option, Some, None, IfSome, All}
+use Rattle.std.proofs.Common.{◌≡◌, ℕ, zero, suc, ◌+◌, ◌<◌, ℤ, pos, List, [], ◌∷◌, length, get_or, sym, subst, subst₂, arith, zero-add}
+use Rattle.std.specs.Prelude.{Option, Some, None, IfSome}
 use Rattle.std.specs.List.{AllZip}
 use Rattle.std.proofs.lemmas.List.Elements.{All-weaker}
 use Rattle.std.proofs.lemmas.Slice.Zip.{AllZip-long}
-use Rattle.exact_math.specs.Rational.{ℚ, whole, neg_ℚ, ◌≤ℚ◌}
+use Rattle.exact_math.specs.Rational.{ℚ, whole, ◌≤ℚ◌}
 use Rattle.exact_math.specs.RationalOrder.{neg_le}
 use Rattle.whole_rows.specs.declared.bounds.Bounds.{Bounds}
 use Rattle.whole_rows.specs.WholeRows.{WholeRow, WholeRows}

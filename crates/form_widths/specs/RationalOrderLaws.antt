@@ -1,10 +1,10 @@
 -- Inequalities of rational numbers as the laws of widths use them.
-use Rattle.std.proofs.Common.{◌≡◌, ◌⊎◌, inl, inr, ⊎_elim, ℕ, ◌*◌, ◌<◌, ◌≤◌, ℤ, pos, ◌*ℤ◌, ◌≤ℤ◌, ◌<ℤ◌, List, [], ◌∷◌, refl, sym, ap, ap₂, ◌∙◌, subst, subst₂, arith}
+use Rattle.std.proofs.Common.{◌≡◌, ⊎_elim, ℕ, ◌*◌, ◌<◌, ◌≤◌, ℤ, pos, ◌*ℤ◌, ◌<ℤ◌, [], ◌∷◌, refl, sym, ap, ◌∙◌, subst, subst₂, arith}
 use Rattle.exact_math.specs.IntegerRing.{linear}
 use Rattle.exact_math.specs.OrderedRing as Ordered
-use Rattle.exact_math.specs.Rational.{ℚ, whole, frac, inv_ℚ, ◌+ℚ◌, neg_ℚ, ◌-ℚ◌, ◌*ℚ◌, ◌/ℚ◌, ◌≤ℚ◌, ◌<ℚ◌}
+use Rattle.exact_math.specs.Rational.{ℚ, whole, frac, ◌+ℚ◌, ◌-ℚ◌, ◌*ℚ◌, ◌/ℚ◌, ◌≤ℚ◌, ◌<ℚ◌}
 use Rattle.exact_math.specs.RationalLaws.{frac-mul, same_frac, whole-frac, pos-ne-zero, zero_from_num}
-use Rattle.exact_math.specs.RationalOrder.{add_le, difference_from_le, le_frac, le_or_lt, lt_frac, le_refl, le_trans, mul_le, mul_nonneg, not_le_of_lt, rationals_are_ordered, whole_le}
+use Rattle.exact_math.specs.RationalOrder.{difference_from_le, le_frac, le_or_lt, lt_frac, le_refl, le_trans, mul_le, not_le_of_lt, rationals_are_ordered, whole_le}
 use Rattle.exact_math.specs.RationalRing.{rationals, div_is, mul_one}
 use Rattle.exact_math.specs.RingSolver.{ring, reads}
 use Rattle.whole_vectors.specs.WholeVectorLaws.{whole-injective}

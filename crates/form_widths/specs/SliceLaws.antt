@@ -1,7 +1,7 @@
 -- Points and bounds give the slices of a form.
 use Rattle.std.proofs.Common.{ℤ, pos, ◌+ℤ◌, ◌-ℤ◌, ◌≤ℤ◌, ◌<ℤ◌, List}
 use Rattle.exact_math.specs.IntegerRing.{linear}
-use Rattle.exact_math.specs.Rational.{ℚ, whole}
+use Rattle.exact_math.specs.Rational.{ℚ}
 use Rattle.exact_math.specs.RationalOrder.{le_trans, lt_of_lt_of_le, whole_le}
 use Rattle.form_widths.specs.RationalOrderLaws.{lt_from_whole, lt_of_le_of_lt}
 use Rattle.form_widths.specs.Slices.{AreSlices, ReachesEnds, Spans, StaysBetween}

@@ -1,27 +1,26 @@
 -- A frame of whole vectors is one of rational vectors: each is a whole one over a common denominator, and the maps are linear.
-use Rattle.std.proofs.Common.{◌≡◌, ℕ, suc, ◌*◌, ◌<◌, ◌≤◌, ℤ, pos, neg_ℤ, ◌+ℤ◌, List, [], ◌∷◌, length, get_or, map, refl, sym, ap, ap₂, ◌∙◌, subst, arith}
-use Rattle.std.specs.Prelude.{All}
+use Rattle.std.proofs.Common.{◌≡◌, ℕ, ◌<◌, ℤ, pos, ◌+ℤ◌, List, [], ◌∷◌, length, get_or, map, refl, sym, ap, ap₂, ◌∙◌, arith}
 use Rattle.std.proofs.lemmas.List.{length-map}
 use Rattle.exact_math.specs.IntegerRing.{linear}
 use Rattle.exact_math.specs.Ring.{Ring, integers}
 use Rattle.exact_math.specs.RingLaws as Laws
 use Rattle.exact_math.specs.RingSolver.{ring, reads}
-use Rattle.exact_math.specs.Rational.{ℚ, whole, ◌+ℚ◌, neg_ℚ, ◌-ℚ◌, ◌*ℚ◌}
+use Rattle.exact_math.specs.Rational.{ℚ, whole, ◌+ℚ◌, neg_ℚ, ◌*ℚ◌}
 use Rattle.exact_math.specs.RationalRing.{rationals, add_neg, add_zero}
-use Rattle.exact_vectors.specs.Vectors.{add, dot, negate, scale, zeros}
-use Rattle.exact_vectors.specs.Matrices.{HasWidth, combination, times_vector}
+use Rattle.exact_vectors.specs.Vectors.{add, dot, negate, zeros}
+use Rattle.exact_vectors.specs.Matrices.{combination, times_vector}
 use Rattle.exact_vectors.specs.DotLaws as Dot
 use Rattle.exact_vectors.specs.MatrixLaws as Matrices
 use Rattle.spaces.specs.TableLaws.{HasWidth-rows_in, length-rows_in}
 use Rattle.spaces.specs.Tables.{rows_in}
 use Rattle.reformulate.specs.Frames.{IsFrame}
 use Rattle.reformulate.specs.Solutions.{Meets, Solves}
-use Rattle.reformulate.specs.Substitutions.{IsShaped, Substitution, columns_of, coordinates_of, dimension_of, point_of}
+use Rattle.reformulate.specs.Substitutions.{IsShaped, Substitution, columns_of, dimension_of, point_of}
 use Rattle.reformulate.specs.declared.equality.Equality.{Equality}
 use Rattle.whole_vectors.specs.Cleared.{Cleared}
 use Rattle.whole_vectors.specs.ClearedLaws.{cleared, mul-cancel, scale-cancel}
 use Rattle.whole_vectors.specs.WholeVectorLaws.{dot-map_whole, times_vector-map_whole, whole-injective}
-use Rattle.rational_frames.specs.RationalFrames.{IsRationalFrame, MeetsOver, SolvesOver, rational_coordinates_of, rational_point_of}
+use Rattle.rational_frames.specs.RationalFrames.{IsRationalFrame, SolvesOver, rational_coordinates_of, rational_point_of}
 
 -- ---- sums of vectors and back, over any ring
 

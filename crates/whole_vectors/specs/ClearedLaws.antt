@@ -1,10 +1,10 @@
 -- Each rational vector has a common denominator, and factors other than 0 are cancelled.
-use Rattle.std.proofs.Common.{◌≡◌, ◌≢◌, ℕ, ◌*◌, ◌<◌, ℤ, pos, ◌*ℤ◌, List, [], ◌∷◌, map, refl, sym, ap, ap₂, ◌∙◌, arith, mul-pos}
+use Rattle.std.proofs.Common.{◌≡◌, ℕ, ◌*◌, ◌<◌, pos, ◌*ℤ◌, List, [], ◌∷◌, refl, sym, ap, ap₂, ◌∙◌, arith, mul-pos}
 use Rattle.exact_math.specs.Ring.{integers}
 use Rattle.exact_math.specs.IntegerRing.{linear}
-use Rattle.exact_math.specs.Rational.{ℚ, whole, frac, inv_ℚ, ◌*ℚ◌}
+use Rattle.exact_math.specs.Rational.{ℚ, whole, inv_ℚ, ◌*ℚ◌}
 use Rattle.exact_math.specs.RationalLaws.{den_pos, frac-mul, frac-self, same_frac, whole-frac, pos-ne-zero}
-use Rattle.exact_math.specs.RationalRing.{rationals, mul_assoc, mul_comm, mul_inv, mul_one, whole_mul}
+use Rattle.exact_math.specs.RationalRing.{rationals, mul_assoc, mul_comm, mul_inv, whole_mul}
 use Rattle.exact_math.specs.RingLaws as Laws
 use Rattle.exact_vectors.specs.Vectors.{scale}
 use Rattle.whole_vectors.specs.Cleared.{Cleared}
