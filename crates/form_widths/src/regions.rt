@@ -4,7 +4,7 @@ ghost use Rattle.std.specs.Prelude.{◌≡◌, ◌↔◌, ℕ, ◌*◌, ◌<◌,
 ghost use Rattle.exact_math.specs.Rational.{ℚ, whole, ◌+ℚ◌, neg_ℚ, ◌-ℚ◌, ◌*ℚ◌, ◌/ℚ◌, ◌≤ℚ◌};
 ghost use Rattle.exact_math.specs.RationalRing.{rationals};
 ghost use Rattle.exact_math.specs.Ring.{integers};
-ghost use Rattle.exact_vectors.specs.Matrices.{HasWidth, times_vector};
+ghost use Rattle.exact_vectors.specs.Matrices.{HasWidth, combination, times_vector};
 ghost use Rattle.exact_vectors.specs.Vectors.{dot, scale, sum};
 ghost use Rattle.farkas_rows.specs.Inequalities.{Inequality, at_most, at_least};
 ghost use Rattle.node_point.specs.NodePoints.{Fractions};
@@ -85,9 +85,17 @@ pub fn slacks_are_counted()
         → whole width ≤ℚ (form_value form (coordinates y) -ℚ form_value form (coordinates z)) }
 {}
 
-/// An inequality at x0 + K y is one in y. Where each point y of one region has a point x of another at which the form is that at y and a whole constant, a
-/// bound on the width there is one here; and with the points the other way round the slices are the same, moved by the constant.
+/// A form at x0 + K y is one in y and a constant, also where a second such map follows, and an inequality there is one in y. Where each point y of one
+/// region has a point x of another at which the form is that at y and a whole constant, a bound on the width there is one here; and with the points the
+/// other way round the slices are the same, moved by the constant.
 pub fn pulled_regions<I, J>()
+    ensures value { (r : ℕ) (base : List ℤ) (lines : List (List ℤ)) (form : List ℤ) (y : List ℚ) → HasWidth r lines → length base ≡ length lines
+        → form_value form (point_over base lines y) ≡ whole (dot integers form base) +ℚ form_value (combination integers r form lines) y }
+    ensures through { (r m : ℕ) (base placing_base : List ℤ) (lines placing_lines : List (List ℤ)) (form : List ℤ) (y : List ℚ) → HasWidth r lines
+        → HasWidth m placing_lines → length base ≡ length lines → length placing_base ≡ length placing_lines
+        → form_value form (point_over placing_base placing_lines (point_over base lines y))
+        ≡ form_value (combination integers r (combination integers m form placing_lines) lines) y
+        +ℚ whole (dot integers form placing_base +ℤ dot integers (combination integers m form placing_lines) base) }
     ensures met { (r : ℕ) (base : List ℤ) (lines : List (List ℤ)) (inequality : Inequality) (y : List ℚ) → HasWidth r lines
         → length base ≡ length lines → IsMetAt (point_over base lines y) inequality ↔ IsMetAt y (pulled r base lines inequality) }
     ensures rows { (inequalities : List Inequality) (y : List ℚ) → All (IsMetAt y) inequalities ↔ AllZip ◌≤ℚ◌
