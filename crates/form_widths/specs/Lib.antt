@@ -17,3 +17,4 @@ pub mod PulledLaws
 pub mod MeanLaws
 pub mod FixedPointLaws
 pub mod MeanOverLaws
+pub mod EndTimesLaws

@@ -73,6 +73,11 @@ length-before rows path =
     let s = flat_map slice_sides path in
     omega (arith, length-append f (c ++ s), length-append c s, length-rows rows.rows, length-columns (length rows.box) 0 rows.box, length-slices path)
 
+-- so there is one more with the end
+pub length-inequalities : (rows : WholeRows) (path : List Slice) (end : Option Inequality) → length (inequalities rows path end) ≡ suc (end_number rows path)
+length-inequalities rows path end =
+    ap (λ (l : List (Option Inequality)). length l) (with_end rows path end) ∙ omega (arith, length-append (before rows path) (end ∷ []), length-before rows path)
+
 -- another last item leaves the others
 other_last : {X : Type 0} (xs : List X) (e f d : X) (i : ℕ) → i ≢ length xs → get_or (xs ++ e ∷ []) i d ≡ get_or (xs ++ f ∷ []) i d
 other_last [] e f d zero ne = absurd (ne refl)
