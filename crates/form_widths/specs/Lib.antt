@@ -18,3 +18,4 @@ pub mod MeanLaws
 pub mod FixedPointLaws
 pub mod MeanOverLaws
 pub mod EndTimesLaws
+pub mod PrimitiveLaws

@@ -1,6 +1,7 @@
 //! The laws of widths and slices on any region, and of the room about a mean in a region of linear inequalities.
+ghost use Rattle.std.specs.Int.{◌∣◌};
 ghost use Rattle.std.specs.List.{AllZip};
-ghost use Rattle.std.specs.Prelude.{◌≡◌, ◌↔◌, ℕ, ◌*◌, ◌<◌, ℤ, pos, neg_ℤ, ◌+ℤ◌, ◌-ℤ◌, ◌≤ℤ◌, ◌<ℤ◌, ◌*ℤ◌, List, All, length, map};
+ghost use Rattle.std.specs.Prelude.{◌≡◌, ◌↔◌, ℕ, ◌*◌, ◌<◌, ℤ, pos, neg_ℤ, ◌+ℤ◌, ◌-ℤ◌, ◌≤ℤ◌, ◌<ℤ◌, ◌*ℤ◌, List, All, length, map, nat_abs};
 ghost use Rattle.exact_math.specs.Rational.{ℚ, whole, ◌+ℚ◌, neg_ℚ, ◌-ℚ◌, ◌*ℚ◌, ◌/ℚ◌, ◌≤ℚ◌};
 ghost use Rattle.exact_math.specs.RationalRing.{rationals};
 ghost use Rattle.exact_math.specs.Ring.{integers};
@@ -9,7 +10,7 @@ ghost use Rattle.exact_vectors.specs.Vectors.{dot, scale, sum};
 ghost use Rattle.farkas_rows.specs.Inequalities.{Inequality, at_most, at_least};
 ghost use Rattle.node_point.specs.NodePoints.{Fractions};
 ghost use Rattle.node_point.specs.RationalPoints.{coordinates, form_value};
-ghost use Rattle.form_widths.specs.Widths.{IsBoundOn, IsNoWiderThan, IsNonzero};
+ghost use Rattle.form_widths.specs.Widths.{IsBoundOn, IsNoWiderThan, IsNonzero, IsPrimitive};
 ghost use Rattle.form_widths.specs.Slices.{AreSlices, ReachesEnds, StaysBetween};
 ghost use Rattle.form_widths.specs.Rooms.{HasRoom};
 ghost use Rattle.form_widths.specs.Families.{PointsOf};
@@ -109,4 +110,10 @@ pub fn pulled_regions<I, J>()
     ensures slices { (point : I → List ℚ) (inner : J → List ℚ) (form pulled_form : List ℤ) (constant lo count : ℤ)
         → HasMatches (PointsOf inner) pulled_form (PointsOf point) form constant → HasMatches (PointsOf point) form (PointsOf inner) pulled_form (neg_ℤ constant)
         → AreSlices (PointsOf point) form lo count → AreSlices (PointsOf inner) pulled_form (lo -ℤ constant) count }
+{}
+
+/// The quotients of whole factors by their greatest common divisor are a primitive form, and a primitive form is not all 0.
+pub fn primitive_forms()
+    ensures part { (g : ℕ) (form : List ℤ) → 0 < g → ((e : ℕ) → All (λ factor. e ∣ nat_abs factor) (scale integers (pos g) form) → e ∣ g) → IsPrimitive form }
+    ensures nonzero { (form : List ℤ) → IsPrimitive form → IsNonzero form }
 {}
