@@ -1,4 +1,4 @@
--- Slacks in fixed point: whole numbers that are at most a slack, in parts of 1/scale.
+-- Slacks in fixed point, and differences of points: comparisons of whole numbers.
 use Rattle.std.proofs.Common.{◌≡◌, ℕ, ◌<◌, ℤ, pos, negsuc, ◌-ℤ◌, ◌*ℤ◌, ◌≤ℤ◌, ◌<ℤ◌, List, [], ◌∷◌, map, refl, sym, ap, ap₂, ◌∙◌, subst, subst₂}
 use Rattle.std.specs.List.{AllZip}
 use Rattle.exact_math.specs.IntegerRing.{linear}
@@ -6,7 +6,7 @@ use Rattle.exact_math.specs.Ring.{integers}
 use Rattle.exact_math.specs.RingLaws as Laws
 use Rattle.exact_math.specs.RingSolver.{ring, reads}
 use Rattle.exact_math.specs.Rational.{ℚ, whole, inv_ℚ, ◌-ℚ◌, ◌*ℚ◌, ◌/ℚ◌, ◌≤ℚ◌}
-use Rattle.exact_math.specs.RationalOrder.{add_le, le_refl, mul_le, whole_le}
+use Rattle.exact_math.specs.RationalOrder.{add_le, le_refl, mul_le, mul_nonneg, whole_le}
 use Rattle.exact_math.specs.RationalRing.{rationals, mul_add, mul_comm, mul_one, whole_add, whole_mul}
 use Rattle.exact_vectors.specs.Vectors.{dot, scale, sum}
 use Rattle.exact_vectors.specs.DotLaws as Dot
@@ -71,3 +71,32 @@ amounts_within parts inequality [] (a ∷ amounts) h = absurd h
 amounts_within parts inequality (y ∷ points) [] h = absurd h
 amounts_within parts inequality (y ∷ points) (a ∷ amounts) h =
     subst₂ ◌≤ℚ◌ (sym (whole_add a (sum integers amounts))) (sym (mul_add (whole (pos parts)) (slack inequality y) (sum rationals (map (slack inequality) points)))) (add_le _ _ _ _ h.0 (amounts_within parts inequality points amounts h.1))
+
+-- Two points differ in a form by at least a whole number, by a comparison of whole numbers.
+pub points_apart : (form : List ℤ) (y z : Fractions) (width : ℤ) → pos 0 <ℤ y.denominator → pos 0 <ℤ z.denominator → (width *ℤ (y.denominator *ℤ z.denominator)) ≤ℤ ((dot integers form y.numerators *ℤ z.denominator) -ℤ (dot integers form z.numerators *ℤ y.denominator)) → whole width ≤ℚ (form_value form (coordinates y) -ℚ form_value form (coordinates z))
+points_apart form y z width some_y some_z h = go y.numerators z.numerators y.denominator z.denominator some_y some_z h
+  where
+    left : (i j w m n : ℚ) → ((whole (pos 1) *ℚ i) *ℚ (whole (pos 1) *ℚ j)) *ℚ (w *ℚ (m *ℚ n)) ≡ (w *ℚ (i *ℚ m)) *ℚ (j *ℚ n)
+    left i j w m n = ring rationals (i ∷ j ∷ w ∷ m ∷ n ∷ []) (search reads depth 30) (search reads depth 30) refl
+
+    right : (i j a b m n : ℚ) → ((whole (pos 1) *ℚ i) *ℚ (whole (pos 1) *ℚ j)) *ℚ (a *ℚ n -ℚ b *ℚ m) ≡ (i *ℚ a) *ℚ (j *ℚ n) -ℚ (j *ℚ b) *ℚ (i *ℚ m)
+    right i j a b m n = ring rationals (i ∷ j ∷ a ∷ b ∷ m ∷ n ∷ []) (search reads depth 40 fits 20000) (search reads depth 40 fits 20000) refl
+
+    go : (u v : List ℤ) (d e : ℤ) → pos 0 <ℤ d → pos 0 <ℤ e → (width *ℤ (d *ℤ e)) ≤ℤ ((dot integers form u *ℤ e) -ℤ (dot integers form v *ℤ d)) → whole width ≤ℚ (form_value form (coordinates (record { numerators = u; denominator = d })) -ℚ form_value form (coordinates (record { numerators = v; denominator = e })))
+    go u v (negsuc m) e some_d some_e h = absurd (omega linear)
+    go u v (pos m) (negsuc n) some_d some_e h = absurd (omega linear)
+    go u v (pos m) (pos n) some_d some_e h =
+        let some_m : 0 < m = omega linear in
+        let some_n : 0 < n = omega linear in
+        let i = inv_ℚ (whole (pos m)) in
+        let j = inv_ℚ (whole (pos n)) in
+        let a = dot integers form u in
+        let b = dot integers form v in
+        let whole_left = whole_mul width (pos m *ℤ pos n) ∙ ap (λ q. whole width *ℚ q) (whole_mul (pos m) (pos n)) in
+        let whole_right = whole_sub (a *ℤ pos n) (b *ℤ pos m) ∙ ap₂ (λ (s t : ℚ). s -ℚ t) (whole_mul a (pos n)) (whole_mul b (pos m)) in
+        subst₂ ◌≤ℚ◌
+        (ap (λ q. ((whole (pos 1) *ℚ i) *ℚ (whole (pos 1) *ℚ j)) *ℚ q) whole_left ∙ left i j (whole width) (whole (pos m)) (whole (pos n)) ∙ ap₂ (λ (s t : ℚ). (whole width *ℚ s) *ℚ t) (inverse-mul m some_m) (inverse-mul n some_n) ∙ mul_one (whole width *ℚ whole (pos 1)) ∙ mul_one (whole width))
+        (ap (λ q. ((whole (pos 1) *ℚ i) *ℚ (whole (pos 1) *ℚ j)) *ℚ q) whole_right ∙ right i j (whole a) (whole b) (whole (pos m)) (whole (pos n))
+        ∙ ap₂ (λ (s t : ℚ). (i *ℚ whole a) *ℚ s -ℚ (j *ℚ whole b) *ℚ t) (inverse-mul n some_n) (inverse-mul m some_m)
+        ∙ ap₂ (λ (s t : ℚ). s -ℚ t) (mul_one (i *ℚ whole a) ∙ sym (form_value-coordinates form u (pos m))) (mul_one (j *ℚ whole b) ∙ sym (form_value-coordinates form v (pos n))))
+        (mul_le ((whole (pos 1) *ℚ i) *ℚ (whole (pos 1) *ℚ j)) _ _ (mul_nonneg _ _ (inverse-nonneg m some_m) (inverse-nonneg n some_n)) (whole_le _ _ h))

@@ -17,3 +17,5 @@ pub mod PulledLaws
 pub mod MeanLaws
 pub mod FixedPointLaws
 pub mod MeanOverLaws
+pub mod EndTimesLaws
+pub mod PrimitiveLaws

@@ -8,7 +8,7 @@ use Rattle.exact_math.specs.IntegerRing.{linear}
 use Rattle.exact_math.specs.OrderedRing as Ordered
 use Rattle.exact_math.specs.Rational.{ℚ, whole, inv_ℚ, ◌+ℚ◌, neg_ℚ, ◌-ℚ◌, ◌*ℚ◌, ◌/ℚ◌, ◌≤ℚ◌}
 use Rattle.exact_math.specs.RationalOrder.{difference_from_le, le_refl, le_trans, mul_le, mul_nonneg, rationals_are_ordered, whole_le}
-use Rattle.exact_math.specs.RationalRing.{rationals, whole_add, whole_mul}
+use Rattle.exact_math.specs.RationalRing.{rationals, mul_one, whole_add, whole_mul}
 use Rattle.exact_math.specs.RingLaws as Laws
 use Rattle.exact_math.specs.RingSolver.{ring, reads}
 use Rattle.exact_vectors.specs.Vectors.{scale, sum}
@@ -127,6 +127,23 @@ item-none : (form : List ℤ) (k : ℕ) → All (λ (factor : ℤ). factor ≡ p
 item-none [] k h = refl
 item-none (a ∷ form) zero h = All-head (λ (factor : ℤ). factor ≡ pos 0) a form h
 item-none (a ∷ form) (suc k) h = item-none form k (All-tail (λ (factor : ℤ). factor ≡ pos 0) a form h)
+
+-- The room of a mean is at least a width over a factor, by a comparison of whole numbers.
+pub room_at_least : (scale reach room factor : ℕ) (points : List (List ℚ)) (width : ℤ) → 0 < length points → 0 < scale → 0 < reach → (width *ℤ pos (length points * (scale * reach))) ≤ℤ (pos factor *ℤ (pos 2 *ℤ pos room)) → whole width ≤ℚ (whole (pos factor) *ℚ (whole (pos 2) *ℚ room_of scale reach room points))
+room_at_least scale reach room factor points width some some_scale some_reach h =
+    let all : 0 < length points * (scale * reach) = mul-pos some (mul-pos some_scale some_reach) in
+    let i = inv_ℚ (whole (pos (length points * (scale * reach)))) in
+    let m = whole (pos (length points * (scale * reach))) in
+    subst₂ ◌≤ℚ◌
+    (ap (λ t. (whole (pos 1) *ℚ i) *ℚ t) (whole_mul width (pos (length points * (scale * reach)))) ∙ left i (whole width) m ∙ ap (λ t. whole width *ℚ t) (inverse-mul (length points * (scale * reach)) all) ∙ mul_one (whole width))
+    (ap (λ t. (whole (pos 1) *ℚ i) *ℚ t) (whole_mul (pos factor) (pos 2 *ℤ pos room) ∙ ap (λ t. whole (pos factor) *ℚ t) (whole_mul (pos 2) (pos room))) ∙ right i (whole (pos factor)) (whole (pos room)))
+    (mul_le (whole (pos 1) /ℚ m) _ _ (inverse-nonneg (length points * (scale * reach)) all) (whole_le _ _ h))
+  where
+    left : (i w m : ℚ) → (whole (pos 1) *ℚ i) *ℚ (w *ℚ m) ≡ w *ℚ (i *ℚ m)
+    left i w m = ring rationals (i ∷ w ∷ m ∷ []) (search reads depth 30) (search reads depth 30) refl
+
+    right : (i f r : ℚ) → (whole (pos 1) *ℚ i) *ℚ (f *ℚ (whole (pos 2) *ℚ r)) ≡ f *ℚ (whole (pos 2) *ℚ (r *ℚ i))
+    right i f r = ring rationals (i ∷ f ∷ r ∷ []) (search reads depth 30) (search reads depth 30) refl
 
 module _ (n scale reach room : ℕ) (inequalities : List Inequality) (points : List (List ℚ)) (some : 0 < length points) (some_scale : 0 < scale) (some_reach : 0 < reach) (solutions : All (IsSolution n inequalities) points) where
   -- the mean with a coordinate moved meets an inequality, where the move is within the mean slack

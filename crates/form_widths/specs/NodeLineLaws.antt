@@ -11,7 +11,7 @@ use Rattle.exact_math.specs.Ring.{integers}
 use Rattle.exact_math.specs.RingLaws as Laws
 use Rattle.exact_math.specs.RingSolver.{ring, reads}
 use Rattle.exact_math.specs.Rational.{ℚ, whole, ◌+ℚ◌, neg_ℚ, ◌-ℚ◌, ◌*ℚ◌, ◌/ℚ◌, ◌≤ℚ◌, ◌<ℚ◌}
-use Rattle.exact_math.specs.RationalRing.{rationals, whole_add}
+use Rattle.exact_math.specs.RationalRing.{rationals}
 use Rattle.exact_math.specs.RationalOrder.{le_from_whole}
 use Rattle.exact_vectors.specs.Vectors.{dot, sum}
 use Rattle.whole_rows.specs.declared.bounds.Bounds.{Bounds}
@@ -29,7 +29,7 @@ use Rattle.form_widths.specs.Inequalities.{IsMetAt, slack}
 use Rattle.form_widths.specs.LineLaws.{IsMissedBy, end-missed, greatest_by_miss, least_by_miss, miss-least, miss-quotient}
 use Rattle.form_widths.specs.NodeLines.{HasClosedEnds, RefutesEnd, end_number, margin, shortfall, times_of, width_between}
 use Rattle.form_widths.specs.NodePointLaws.{inequalities-met}
-use Rattle.form_widths.specs.RationalOrderLaws.{le_by, le_by_two, lt_by_margin, quotient-positive}
+use Rattle.form_widths.specs.RationalOrderLaws.{ends_apart, le_by, le_by_two, lt_by_margin, quotient-positive}
 use Rattle.form_widths.specs.SliceLaws.{slices_shown}
 use Rattle.form_widths.specs.Slices.{AreSlices, ReachesEnds, StaysBetween}
 use Rattle.form_widths.specs.Widths.{IsBoundOn}
@@ -72,6 +72,11 @@ length-before rows path =
     let c = column_bounds (length rows.box) 0 rows.box in
     let s = flat_map slice_sides path in
     omega (arith, length-append f (c ++ s), length-append c s, length-rows rows.rows, length-columns (length rows.box) 0 rows.box, length-slices path)
+
+-- so there is one more with the end
+pub length-inequalities : (rows : WholeRows) (path : List Slice) (end : Option Inequality) → length (inequalities rows path end) ≡ suc (end_number rows path)
+length-inequalities rows path end =
+    ap (λ (l : List (Option Inequality)). length l) (with_end rows path end) ∙ omega (arith, length-append (before rows path) (end ∷ []), length-before rows path)
 
 -- another last item leaves the others
 other_last : {X : Type 0} (xs : List X) (e f d : X) (i : ℕ) → i ≢ length xs → get_or (xs ++ e ∷ []) i d ≡ get_or (xs ++ f ∷ []) i d
@@ -256,7 +261,7 @@ module _ (rows : WholeRows) (path : List Slice) (cut : Option ℤ) (form : List 
   pub node_width : IsBoundOn (IsRationalPoint rows path cut) form (width_between rows path form lo count line_below line_above)
   node_width y z in_y in_z =
       le_by_two _ _ _ _ _ _ (node_greatest y in_y) (node_least z in_z)
-      (ap (λ t. ((t -ℚ below_margin) -ℚ above_margin) -ℚ (form_value form y -ℚ form_value form z)) count_is
+      (ap (λ t. ((t -ℚ below_margin) -ℚ above_margin) -ℚ (form_value form y -ℚ form_value form z)) (ends_apart lo count)
       ∙ apart (whole (lo -ℤ pos 1)) (whole (lo +ℤ count)) below_margin above_margin (form_value form y) (form_value form z))
     where
       below_margin : ℚ
@@ -267,15 +272,6 @@ module _ (rows : WholeRows) (path : List Slice) (cut : Option ℤ) (form : List 
 
       apart : (a b m k y z : ℚ) → (((b -ℚ a) -ℚ m) -ℚ k) -ℚ (y -ℚ z) ≡ ((b -ℚ k) -ℚ y) +ℚ (z -ℚ (a +ℚ m))
       apart a b m k y z = ring rationals (a ∷ b ∷ m ∷ k ∷ y ∷ z ∷ []) (search reads depth 30) (search reads depth 30) refl
-
-      less : (a c b : ℚ) → c +ℚ a ≡ b → c ≡ b -ℚ a
-      less a c b e = ring rationals (a ∷ c ∷ []) (search reads depth 30) (search reads depth 30) refl ∙ ap (λ t. t -ℚ a) e
-
-      whole_sum : (count +ℤ pos 1) +ℤ (lo -ℤ pos 1) ≡ lo +ℤ count
-      whole_sum = omega linear
-
-      count_is : whole (count +ℤ pos 1) ≡ whole (lo +ℤ count) -ℚ whole (lo -ℤ pos 1)
-      count_is = less (whole (lo -ℤ pos 1)) (whole (count +ℤ pos 1)) (whole (lo +ℤ count)) (sym (whole_add (count +ℤ pos 1) (lo -ℤ pos 1)) ∙ ap whole whole_sum)
 
   -- the slices
   pub node_slices : ReachesEnds (IsRationalPoint rows path cut) form lo count → AreSlices (IsRationalPoint rows path cut) form lo count

@@ -37,6 +37,17 @@ form_value-point_over r base lines form y width same =
     ∙ ap₂ ◌+ℚ◌ (dot-map_whole form base)
     (Matrices.dot_times_vector rationals r (map whole form) (map (map whole) lines) y (HasWidth-map_whole r lines width) ∙ ap (λ v. dot rationals v y) (sym (map_whole-combination r form lines)))
 
+-- the form at x0 + K y through a second such map
+pub form_value-through : (r m : ℕ) (base placing_base : List ℤ) (lines placing_lines : List (List ℤ)) (form : List ℤ) (y : List ℚ) → HasWidth r lines → HasWidth m placing_lines → length base ≡ length lines → length placing_base ≡ length placing_lines → form_value form (point_over placing_base placing_lines (point_over base lines y)) ≡ form_value (combination integers r (combination integers m form placing_lines) lines) y +ℚ whole (dot integers form placing_base +ℤ dot integers (combination integers m form placing_lines) base)
+form_value-through r m base placing_base lines placing_lines form y width placing_width same placing_same =
+    form_value-point_over m placing_base placing_lines form (point_over base lines y) placing_width placing_same
+    ∙ ap (λ t. whole (dot integers form placing_base) +ℚ t) (form_value-point_over r base lines (combination integers m form placing_lines) y width same)
+    ∙ behind (whole (dot integers form placing_base)) (whole (dot integers (combination integers m form placing_lines) base)) (form_value (combination integers r (combination integers m form placing_lines) lines) y)
+    ∙ ap (λ t. form_value (combination integers r (combination integers m form placing_lines) lines) y +ℚ t) (sym (whole_add (dot integers form placing_base) (dot integers (combination integers m form placing_lines) base)))
+  where
+    behind : (a b v : ℚ) → a +ℚ (b +ℚ v) ≡ v +ℚ (a +ℚ b)
+    behind a b v = ring rationals (a ∷ b ∷ v ∷ []) (search reads depth 30) (search reads depth 30) refl
+
 -- an inequality's slack
 pub slack-pulled : (r : ℕ) (base : List ℤ) (lines : List (List ℤ)) (inequality : Inequality) (y : List ℚ) → HasWidth r lines → length base ≡ length lines → slack (pulled r base lines inequality) y ≡ slack inequality (point_over base lines y)
 slack-pulled r base lines inequality y width same =

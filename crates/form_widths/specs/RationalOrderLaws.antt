@@ -1,11 +1,11 @@
 -- Inequalities of rational numbers as the laws of widths use them.
-use Rattle.std.proofs.Common.{◌≡◌, ⊎_elim, ℕ, ◌*◌, ◌<◌, ◌≤◌, ℤ, pos, ◌*ℤ◌, ◌<ℤ◌, [], ◌∷◌, refl, sym, ap, ◌∙◌, subst, subst₂, arith}
+use Rattle.std.proofs.Common.{◌≡◌, ⊎_elim, ℕ, ◌*◌, ◌<◌, ◌≤◌, ℤ, pos, ◌+ℤ◌, ◌-ℤ◌, ◌*ℤ◌, ◌<ℤ◌, [], ◌∷◌, refl, sym, ap, ◌∙◌, subst, subst₂, arith}
 use Rattle.exact_math.specs.IntegerRing.{linear}
 use Rattle.exact_math.specs.OrderedRing as Ordered
 use Rattle.exact_math.specs.Rational.{ℚ, whole, frac, ◌+ℚ◌, ◌-ℚ◌, ◌*ℚ◌, ◌/ℚ◌, ◌≤ℚ◌, ◌<ℚ◌}
 use Rattle.exact_math.specs.RationalLaws.{frac-mul, same_frac, whole-frac, pos-ne-zero, zero_from_num}
 use Rattle.exact_math.specs.RationalOrder.{difference_from_le, le_frac, le_or_lt, lt_frac, le_refl, le_trans, mul_le, not_le_of_lt, rationals_are_ordered, whole_le}
-use Rattle.exact_math.specs.RationalRing.{rationals, div_is, mul_one}
+use Rattle.exact_math.specs.RationalRing.{rationals, div_is, mul_one, whole_add}
 use Rattle.exact_math.specs.RingSolver.{ring, reads}
 use Rattle.whole_vectors.specs.WholeVectorLaws.{whole-injective}
 
@@ -64,3 +64,13 @@ lt_by_margin p q m positive h =
   where
     none : (p q m : ℚ) → whole (pos 0) -ℚ m ≡ (q -ℚ (p +ℚ m)) +ℚ (p -ℚ q)
     none p q m = ring rationals (p ∷ q ∷ m ∷ []) (search reads depth 30) (search reads depth 30) refl
+
+-- how far the ends of `count` numbers from `lo` on are apart
+pub ends_apart : (lo count : ℤ) → whole (count +ℤ pos 1) ≡ whole (lo +ℤ count) -ℚ whole (lo -ℤ pos 1)
+ends_apart lo count = less (whole (lo -ℤ pos 1)) (whole (count +ℤ pos 1)) (whole (lo +ℤ count)) (sym (whole_add (count +ℤ pos 1) (lo -ℤ pos 1)) ∙ ap whole both)
+  where
+    both : (count +ℤ pos 1) +ℤ (lo -ℤ pos 1) ≡ lo +ℤ count
+    both = omega linear
+
+    less : (a c b : ℚ) → c +ℚ a ≡ b → c ≡ b -ℚ a
+    less a c b e = ring rationals (a ∷ c ∷ []) (search reads depth 30) (search reads depth 30) refl ∙ ap (λ t. t -ℚ a) e

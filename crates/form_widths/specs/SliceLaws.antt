@@ -1,10 +1,14 @@
--- Points and bounds give the slices of a form.
-use Rattle.std.proofs.Common.{ℤ, pos, ◌+ℤ◌, ◌-ℤ◌, ◌≤ℤ◌, ◌<ℤ◌, List}
+-- Points and bounds give the slices of a form, and bounds its width.
+use Rattle.std.proofs.Common.{◌≡◌, ℤ, pos, ◌+ℤ◌, ◌-ℤ◌, ◌≤ℤ◌, ◌<ℤ◌, List, [], ◌∷◌, refl, ap, ◌∙◌}
 use Rattle.exact_math.specs.IntegerRing.{linear}
-use Rattle.exact_math.specs.Rational.{ℚ}
-use Rattle.exact_math.specs.RationalOrder.{le_trans, lt_of_lt_of_le, whole_le}
-use Rattle.form_widths.specs.RationalOrderLaws.{lt_from_whole, lt_of_le_of_lt}
+use Rattle.exact_math.specs.Rational.{ℚ, whole, ◌+ℚ◌, ◌-ℚ◌}
+use Rattle.exact_math.specs.RationalOrder.{le_of_lt, le_trans, lt_of_lt_of_le, whole_le}
+use Rattle.exact_math.specs.RationalRing.{rationals}
+use Rattle.exact_math.specs.RingSolver.{ring, reads}
+use Rattle.node_point.specs.RationalPoints.{form_value}
+use Rattle.form_widths.specs.RationalOrderLaws.{ends_apart, le_by_two, lt_from_whole, lt_of_le_of_lt}
 use Rattle.form_widths.specs.Slices.{AreSlices, ReachesEnds, Spans, StaysBetween}
+use Rattle.form_widths.specs.Widths.{IsBoundOn}
 
 -- where the form stays above lo - 1 and below lo + count, and reaches lo and lo + count - 1
 pub slices_shown : (region : List ℚ → Type 0) (form : List ℤ) (lo count : ℤ) → StaysBetween region form lo count → ReachesEnds region form lo count → AreSlices region form lo count
@@ -29,3 +33,12 @@ slices_shown region form lo count between reaches w = (inside, spanned)
           at_low = le_trans _ _ _ s.at_low (whole_le lo w h.0);
           at_high = le_trans _ _ _ (whole_le w ((lo +ℤ count) -ℤ pos 1) last) s.at_high;
         }
+
+-- A form that stays above lo - 1 and below lo + count is less than count + 1 wide.
+pub bound_by_ends : (region : List ℚ → Type 0) (form : List ℤ) (lo count : ℤ) → StaysBetween region form lo count → IsBoundOn region form (whole (count +ℤ pos 1))
+bound_by_ends region form lo count between y z in_y in_z =
+    le_by_two _ _ _ _ _ _ (le_of_lt (form_value form y) (whole (lo +ℤ count)) (between y in_y).1) (le_of_lt (whole (lo -ℤ pos 1)) (form_value form z) (between z in_z).0)
+    (ap (λ t. t -ℚ (form_value form y -ℚ form_value form z)) (ends_apart lo count) ∙ apart (whole (lo -ℤ pos 1)) (whole (lo +ℤ count)) (form_value form y) (form_value form z))
+  where
+    apart : (a b y z : ℚ) → (b -ℚ a) -ℚ (y -ℚ z) ≡ (b -ℚ y) +ℚ (z -ℚ a)
+    apart a b y z = ring rationals (a ∷ b ∷ y ∷ z ∷ []) (search reads depth 30) (search reads depth 30) refl

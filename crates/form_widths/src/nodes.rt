@@ -1,17 +1,19 @@
 //! What the lines of a node's two ends show.
-ghost use Rattle.std.specs.Prelude.{ℤ, pos, ◌-ℤ◌, ◌+ℤ◌, List, Option};
+ghost use Rattle.std.specs.Prelude.{◌≡◌, ◌==◌, true, false, ℤ, pos, ◌-ℤ◌, ◌+ℤ◌, List, [], ◌∷◌, ◌++◌, Option, Some};
 ghost use Rattle.exact_math.specs.Rational.{ℚ, whole, ◌+ℚ◌, ◌-ℚ◌, ◌≤ℚ◌};
 ghost use Rattle.whole_rows.specs.WholeRows.{WholeRows};
 ghost use Rattle.farkas_rows.specs.declared.line.Line.{Line};
 ghost use Rattle.farkas_rows.specs.declared.path.Slice.{Slice};
-ghost use Rattle.farkas_rows.specs.Inequalities.{above, below};
+ghost use Rattle.farkas_rows.specs.declared.line.Use.{Use};
+ghost use Rattle.farkas_rows.specs.Inequalities.{Inequality, above, below};
+ghost use Rattle.farkas_rows.specs.Refutes.{Refutes};
 ghost use Rattle.node_point.specs.RationalPoints.{form_value, IsRationalPoint};
 ghost use Rattle.form_widths.specs.Widths.{IsBoundOn};
 ghost use Rattle.form_widths.specs.Slices.{AreSlices, ReachesEnds, StaysBetween};
-ghost use Rattle.form_widths.specs.NodeLines.{HasClosedEnds, margin, width_between};
+ghost use Rattle.form_widths.specs.NodeLines.{HasClosedEnds, end_number, margin, times_of, width_between};
 
 /// Two lines that refute the ends of a form at a node keep the form between them at each rational point of the node, and bound its width; with points that
-/// reach the ends they give its slices.
+/// reach the ends they give its slices. The multiplier of an end is read off the last item of its line.
 pub fn node_lines()
     ensures least { (rows : WholeRows) (path : List Slice) (cut : Option ℤ) (form : List ℤ) (lo count : ℤ) (line_below line_above : Line) (x : List ℚ)
         → HasClosedEnds rows path cut form lo count line_below line_above → IsRationalPoint rows path cut x
@@ -27,4 +29,7 @@ pub fn node_lines()
     ensures slices { (rows : WholeRows) (path : List Slice) (cut : Option ℤ) (form : List ℤ) (lo count : ℤ) (line_below line_above : Line)
         → HasClosedEnds rows path cut form lo count line_below line_above → ReachesEnds (IsRationalPoint rows path cut) form lo count
         → AreSlices (IsRationalPoint rows path cut) form lo count }
+    ensures end_times { (rows : WholeRows) (path : List Slice) (end : Inequality) (line : Line) (front : List Use) (last : Use) → Refutes rows path (Some end) line
+        → line.items ≡ front ++ last ∷ []
+        → times_of (end_number rows path) line ≡ elim (last.index == end_number rows path) [ true ↦ last.times | false ↦ pos 0 ] }
 {}

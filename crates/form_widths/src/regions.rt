@@ -1,15 +1,16 @@
 //! The laws of widths and slices on any region, and of the room about a mean in a region of linear inequalities.
+ghost use Rattle.std.specs.Int.{◌∣◌};
 ghost use Rattle.std.specs.List.{AllZip};
-ghost use Rattle.std.specs.Prelude.{◌≡◌, ◌↔◌, ℕ, ◌<◌, ℤ, pos, neg_ℤ, ◌-ℤ◌, ◌≤ℤ◌, ◌<ℤ◌, ◌*ℤ◌, List, All, length, map};
+ghost use Rattle.std.specs.Prelude.{◌≡◌, ◌↔◌, ℕ, ◌*◌, ◌<◌, ℤ, pos, neg_ℤ, ◌+ℤ◌, ◌-ℤ◌, ◌≤ℤ◌, ◌<ℤ◌, ◌*ℤ◌, List, All, length, map, nat_abs};
 ghost use Rattle.exact_math.specs.Rational.{ℚ, whole, ◌+ℚ◌, neg_ℚ, ◌-ℚ◌, ◌*ℚ◌, ◌/ℚ◌, ◌≤ℚ◌};
 ghost use Rattle.exact_math.specs.RationalRing.{rationals};
 ghost use Rattle.exact_math.specs.Ring.{integers};
-ghost use Rattle.exact_vectors.specs.Matrices.{HasWidth, times_vector};
+ghost use Rattle.exact_vectors.specs.Matrices.{HasWidth, combination, times_vector};
 ghost use Rattle.exact_vectors.specs.Vectors.{dot, scale, sum};
 ghost use Rattle.farkas_rows.specs.Inequalities.{Inequality, at_most, at_least};
 ghost use Rattle.node_point.specs.NodePoints.{Fractions};
 ghost use Rattle.node_point.specs.RationalPoints.{coordinates, form_value};
-ghost use Rattle.form_widths.specs.Widths.{IsBoundOn, IsNoWiderThan, IsNonzero};
+ghost use Rattle.form_widths.specs.Widths.{IsBoundOn, IsNoWiderThan, IsNonzero, IsPrimitive};
 ghost use Rattle.form_widths.specs.Slices.{AreSlices, ReachesEnds, StaysBetween};
 ghost use Rattle.form_widths.specs.Rooms.{HasRoom};
 ghost use Rattle.form_widths.specs.Families.{PointsOf};
@@ -28,6 +29,8 @@ pub fn slices_are_shown<I>()
 pub fn widths_are_compared<I>()
     ensures room { (point : I → List ℚ) (p : List ℚ) (rho : ℚ) (other : List ℤ) (bound : ℚ) → HasRoom (PointsOf point) p rho → length other ≡ length p
         → IsNonzero other → IsBoundOn (PointsOf point) other bound → (whole (pos 2) *ℚ rho) ≤ℚ bound }
+    ensures by_ends { (point : I → List ℚ) (form : List ℤ) (lo count : ℤ) → StaysBetween (PointsOf point) form lo count
+        → IsBoundOn (PointsOf point) form (whole (count +ℤ pos 1)) }
     ensures by_room { (point : I → List ℚ) (p : List ℚ) (rho width : ℚ) (factor : ℕ) (form other : List ℤ) → HasRoom (PointsOf point) p rho
         → IsBoundOn (PointsOf point) form width → width ≤ℚ (whole (pos factor) *ℚ (whole (pos 2) *ℚ rho)) → length other ≡ length p → IsNonzero other
         → IsNoWiderThan factor (PointsOf point) form other }
@@ -54,7 +57,8 @@ pub fn end_lines()
 
 /// The mean of points that meet linear inequalities has room in every coordinate: the least sum of an inequality's slacks, in parts of 1/`scale`, over the
 /// number of the points, `scale` and the greatest size of a factor. An inequality whose factors are all 0 bounds no coordinate. The same holds in the
-/// coordinates y of the points x0 + K y that meet inequalities, where the factors are those of the inequalities along the vectors of K.
+/// coordinates y of the points x0 + K y that meet inequalities, where the factors are those of the inequalities along the vectors of K. The room is compared
+/// with a width in whole numbers.
 pub fn mean_has_room()
     ensures here { (n scale reach room : ℕ) (inequalities : List Inequality) (points : List (List ℚ)) → 0 < length points → 0 < scale → 0 < reach
         → All (IsSolution n inequalities) points → All (LeavesRoom scale reach room points) inequalities
@@ -63,9 +67,13 @@ pub fn mean_has_room()
         → length base ≡ length lines → 0 < length points → 0 < scale → 0 < reach → All (IsSolutionOver r base lines inequalities) points
         → All (λ inequality. LeavesRoom scale reach room points (pulled r base lines inequality)) inequalities
         → HasRoom (IsSolutionOver r base lines inequalities) (mean r points) (room_of scale reach room points) }
+    ensures compared { (scale reach room factor : ℕ) (points : List (List ℚ)) (width : ℤ) → 0 < length points → 0 < scale → 0 < reach
+        → (width *ℤ pos (length points * (scale * reach))) ≤ℤ (pos factor *ℤ (pos 2 *ℤ pos room))
+        → whole width ≤ℚ (whole (pos factor) *ℚ (whole (pos 2) *ℚ room_of scale reach room points)) }
 {}
 
-/// Whole numbers count slacks from below, in parts of 1/`parts`: one at a point by a comparison of whole numbers, and their sum over the points.
+/// Whole numbers count slacks from below, in parts of 1/`parts`: one at a point by a comparison of whole numbers, and their sum over the points. By such a
+/// comparison two points differ in a form by at least a whole number.
 pub fn slacks_are_counted()
     ensures one { (inequality : Inequality) (x : Fractions) (parts : ℕ) (amount : ℤ) → pos 0 <ℤ x.denominator
         → (amount *ℤ x.denominator) ≤ℤ (pos parts *ℤ ((inequality.limit *ℤ x.denominator) -ℤ dot integers inequality.factors x.numerators))
@@ -73,11 +81,22 @@ pub fn slacks_are_counted()
     ensures all { (parts : ℕ) (inequality : Inequality) (points : List (List ℚ)) (amounts : List ℤ)
         → AllZip (λ point amount. whole amount ≤ℚ (whole (pos parts) *ℚ slack inequality point)) points amounts
         → whole (sum integers amounts) ≤ℚ (whole (pos parts) *ℚ sum rationals (map (slack inequality) points)) }
+    ensures apart { (form : List ℤ) (y z : Fractions) (width : ℤ) → pos 0 <ℤ y.denominator → pos 0 <ℤ z.denominator
+        → (width *ℤ (y.denominator *ℤ z.denominator)) ≤ℤ ((dot integers form y.numerators *ℤ z.denominator) -ℤ (dot integers form z.numerators *ℤ y.denominator))
+        → whole width ≤ℚ (form_value form (coordinates y) -ℚ form_value form (coordinates z)) }
 {}
 
-/// An inequality at x0 + K y is one in y. Where each point y of one region has a point x of another at which the form is that at y and a whole constant, a
-/// bound on the width there is one here; and with the points the other way round the slices are the same, moved by the constant.
+/// A form at x0 + K y is one in y and a constant, also where a second such map follows, and an inequality there is one in y. Where each point y of one
+/// region has a point x of another at which the form is that at y and a whole constant, a bound on the width there is one here; and with the points the
+/// other way round the slices are the same, moved by the constant.
 pub fn pulled_regions<I, J>()
+    ensures value { (r : ℕ) (base : List ℤ) (lines : List (List ℤ)) (form : List ℤ) (y : List ℚ) → HasWidth r lines → length base ≡ length lines
+        → form_value form (point_over base lines y) ≡ whole (dot integers form base) +ℚ form_value (combination integers r form lines) y }
+    ensures through { (r m : ℕ) (base placing_base : List ℤ) (lines placing_lines : List (List ℤ)) (form : List ℤ) (y : List ℚ) → HasWidth r lines
+        → HasWidth m placing_lines → length base ≡ length lines → length placing_base ≡ length placing_lines
+        → form_value form (point_over placing_base placing_lines (point_over base lines y))
+        ≡ form_value (combination integers r (combination integers m form placing_lines) lines) y
+        +ℚ whole (dot integers form placing_base +ℤ dot integers (combination integers m form placing_lines) base) }
     ensures met { (r : ℕ) (base : List ℤ) (lines : List (List ℤ)) (inequality : Inequality) (y : List ℚ) → HasWidth r lines
         → length base ≡ length lines → IsMetAt (point_over base lines y) inequality ↔ IsMetAt y (pulled r base lines inequality) }
     ensures rows { (inequalities : List Inequality) (y : List ℚ) → All (IsMetAt y) inequalities ↔ AllZip ◌≤ℚ◌
@@ -91,4 +110,10 @@ pub fn pulled_regions<I, J>()
     ensures slices { (point : I → List ℚ) (inner : J → List ℚ) (form pulled_form : List ℤ) (constant lo count : ℤ)
         → HasMatches (PointsOf inner) pulled_form (PointsOf point) form constant → HasMatches (PointsOf point) form (PointsOf inner) pulled_form (neg_ℤ constant)
         → AreSlices (PointsOf point) form lo count → AreSlices (PointsOf inner) pulled_form (lo -ℤ constant) count }
+{}
+
+/// The quotients of whole factors by their greatest common divisor are a primitive form, and a primitive form is not all 0.
+pub fn primitive_forms()
+    ensures part { (g : ℕ) (form : List ℤ) → 0 < g → ((e : ℕ) → All (λ factor. e ∣ nat_abs factor) (scale integers (pos g) form) → e ∣ g) → IsPrimitive form }
+    ensures nonzero { (form : List ℤ) → IsPrimitive form → IsNonzero form }
 {}

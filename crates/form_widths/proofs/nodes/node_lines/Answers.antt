@@ -1,3 +1,4 @@
+use Rattle.form_widths.specs.EndTimesLaws as Ends
 use Rattle.form_widths.specs.NodeLineLaws as Nodes
 use Rattle.form_widths.proofs.nodes.node_lines.Goals as goal
 
@@ -15,3 +16,6 @@ returns-clause-width c = Nodes.node_width
 
 pub returns-clause-slices : goal.returns-clause-slices
 returns-clause-slices c = Nodes.node_slices
+
+pub returns-clause-end_times : goal.returns-clause-end_times
+returns-clause-end_times c = Ends.times_of-last

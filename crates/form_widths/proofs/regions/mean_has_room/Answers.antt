@@ -1,4 +1,4 @@
-use Rattle.form_widths.specs.MeanLaws.{mean_room}
+use Rattle.form_widths.specs.MeanLaws.{mean_room, room_at_least}
 use Rattle.form_widths.specs.MeanOverLaws.{mean_room_over}
 use Rattle.form_widths.proofs.regions.mean_has_room.Goals as goal
 
@@ -7,3 +7,6 @@ returns-clause-here c = λ n scale reach room inequalities points some some_scal
 
 pub returns-clause-over : goal.returns-clause-over
 returns-clause-over c = λ r scale reach room base lines inequalities points width same. mean_room_over r base lines width same scale reach room inequalities points
+
+pub returns-clause-compared : goal.returns-clause-compared
+returns-clause-compared c = room_at_least

@@ -3,6 +3,12 @@ use Rattle.form_widths.specs.MeanOverLaws.{met_by_rows, rows_met}
 use Rattle.form_widths.specs.PulledLaws as Pulled
 use Rattle.form_widths.proofs.regions.pulled_regions.Goals as goal
 
+pub returns-clause-value : goal.returns-clause-value
+returns-clause-value g c = Pulled.form_value-point_over
+
+pub returns-clause-through : goal.returns-clause-through
+returns-clause-through g c = Pulled.form_value-through
+
 pub returns-clause-met : goal.returns-clause-met
 returns-clause-met g c = Pulled.IsMetAt-pulled
 

@@ -6,3 +6,6 @@ returns-clause-one c = Counts.amount_within
 
 pub returns-clause-all : goal.returns-clause-all
 returns-clause-all c = Counts.amounts_within
+
+pub returns-clause-apart : goal.returns-clause-apart
+returns-clause-apart c = Counts.points_apart

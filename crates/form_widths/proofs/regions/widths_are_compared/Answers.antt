@@ -1,4 +1,5 @@
 use Rattle.form_widths.specs.Families.{PointsOf}
+use Rattle.form_widths.specs.SliceLaws.{bound_by_ends}
 use Rattle.form_widths.specs.WidthLaws.{no_wider_by_multiple, no_wider_by_points, no_wider_by_room, room_bounds_width}
 use Rattle.form_widths.proofs.regions.widths_are_compared.Goals as goal
 
@@ -13,3 +14,6 @@ returns-clause-by_points g c = λ point. no_wider_by_points (PointsOf point)
 
 pub returns-clause-by_multiple : goal.returns-clause-by_multiple
 returns-clause-by_multiple g c = λ point. no_wider_by_multiple (PointsOf point)
+
+pub returns-clause-by_ends : goal.returns-clause-by_ends
+returns-clause-by_ends g c = λ point. bound_by_ends (PointsOf point)
