@@ -3,7 +3,7 @@ use Rattle.std.proofs.Common.{◌≡◌, ◌≢◌, ℕ, List, [], ◌∷◌, �
 use Rattle.std.specs.Prelude.{IfOk, IsErrOf, OnOk, OnErr, option_map, Result, Ok, Err, All}
 use Rattle.std.proofs.lemmas.List.{take_all}
 use Rattle.std.proofs.lemmas.Option.{none-some}
-use Rattle.desk_io.specs.Desk.{appended, AppendsSome, Same, SameButAt}
+use Rattle.desk_io.specs.Desk.{Fault, appended, AppendsSome, Same, SameButAt}
 use Rattle.desk_io.specs.FaultLaws.{rose_after}
 use Rattle.desk_io.specs.declared.desk.DeskStop.{DeskStop}
 use Rattle.desk_io.specs.declared.desk.DeskStop.TheVariants as stops
@@ -11,6 +11,9 @@ use Rattle.int_model.specs.declared.model.Column.{Column}
 use Rattle.int_model.specs.declared.model.Row.{Row}
 use Rattle.int_model.specs.declared.model.Model.{Model}
 use Rattle.int_model.specs.IntegerRows.{IsDistinctBelow}
+use Rattle.mps_fields.specs.Lines.{most_bytes}
+use Rattle.mps_model.specs.declared.layout.Layout.TheVariants.{Free}
+use Rattle.mps_model.specs.Meaning.{meaning}
 use Rattle.mps_model.specs.ModelLimits.{KeepsLimits}
 use Rattle.mps_write.specs.PlainModels.{IsPlainRow, IsPlain}
 use Rattle.mps_write.specs.CanonicalText.{canonical_text}
@@ -18,9 +21,9 @@ use Rattle.mps_write.specs.Markets.{market_model}
 use Rattle.solve_cli.specs.declared.status.Status.{Status}
 use Rattle.solve_cli.specs.declared.status.Status.TheVariants.{Large, NoMemory}
 use Rattle.solve_cli.specs.Words.{making, ReadsModel, MakesModel, Job, market_job, command_of}
-use Rattle.solve_cli.specs.MarketTexts.{market_text, made_text}
+use Rattle.solve_cli.specs.MarketTexts.{market_text, made_text, StatesMarket}
 use Rattle.solve_cli.specs.Putting.{Told, IsPut}
-use Rattle.solve_cli.specs.Answer.{Given, IsOutput, IsBegun, Puts, IsOfProof, TakesInput}
+use Rattle.solve_cli.specs.Answer.{Given, desk_faults, IsOutput, IsBegun, Puts, IsOfProof, TakesInput}
 use Rattle.solve_cli.specs.declared.proof.Proof.{Proof}
 use Rattle.solve_cli.specs.declared.reply.Reply.{Reply}
 use Rattle.solve_cli.specs.Report.{report_of, market_line}
@@ -69,6 +72,24 @@ summed_up rows columns start model reply (Ok r) solved is =
   where
     one_more : (line : List ℕ) (lines : List (List ℕ)) → report_of (line ∷ []) ++ report_of lines ≡ report_of (line ∷ lines)
     one_more line lines = ap (λ front. front ++ report_of lines) (append-nil (line ++ 10 ∷ []))
+
+-- the text of the market states the market
+pub market_told : (rows columns start : ℕ) (model : Model) → model ≡ market_model rows columns start → meaning Free None (canonical_text model) ≡ Ok model → length (canonical_text model) ≤ most_bytes
+    → StatesMarket rows columns start (market_text rows columns start)
+market_told rows columns start model same states short =
+    let text = text_of_market rows columns start model same in
+    record {
+      canonical = refl;
+      short = subst (λ bytes. length bytes ≤ most_bytes) text short;
+      states = subst₂ (λ bytes (m : Model). meaning Free None bytes ≡ Ok m) text same states;
+    }
+
+pub same_faults : (count other : ℕ) (last past : Option Fault) → count ≡ other → last ≡ past → desk_faults count last ≡ desk_faults other past
+same_faults count other last past e f = rw (e, f) refl
+
+-- what solving a model comes to, by an equal model
+pub summed_of : (model other : Model) (reply : Reply) → model ≡ other → Replies (Solves [] 1000 model) reply → Replies (Solves [] 1000 other) reply
+summed_of model other reply same solved = subst (λ (m : Model). Replies (Solves [] 1000 m) reply) same solved
 
 -- ---- what was put
 

@@ -240,14 +240,14 @@ module _ (given : Given) (command : Job) (spelled : command_of given.words ≡ S
   abbrev other : (proof : List ℕ) × IfSome (given.left command.proof) (λ l. l ≡ proof)
   other = some_bytes (given.left command.proof)
 
-  abbrev lines : List (List ℕ)
-  lines = (solved other.0).0
+  abbrev said_lines : List (List ℕ)
+  said_lines = (solved other.0).0
 
   abbrev all : Output
-  all = record { lines = lines; made = made_text command.task; proof = text_of reply.proof }
+  all = record { lines = said_lines; made = made_text command.task; proof = text_of reply.proof }
 
   comes : Comes command.task other.0 stated reply.status all
-  comes = comes_made command.task other.0 stated reply.status lines (text_of reply.proof) (solved other.0).2
+  comes = comes_made command.task other.0 stated reply.status said_lines (text_of reply.proof) (solved other.0).2
 
   judges : Judges given reply.status all
   judges = record {
@@ -266,8 +266,8 @@ module _ (given : Given) (command : Job) (spelled : command_of given.words ≡ S
 
   module _ (result : Result (Unit {0}) DeskStop) (old new : Told) (begun : Puts given (made_text command.task) [] old.written) (apart : command.proof ≢ command.model)
       (later : given.faults ≤ old.faults.count) (put : IsPut command.proof (text_of reply.proof) result old new) where
-    before : old.written command.proof ≡ given.written command.proof
-    before = begun.proof command spelled ∙ sym (appended_nothing (given.written command.proof))
+    as_given : old.written command.proof ≡ given.written command.proof
+    as_given = begun.proof command spelled ∙ sym (appended_nothing (given.written command.proof))
 
     puts_behind : (bytes : List ℕ) → new.written command.proof ≡ option_map (appended bytes) (old.written command.proof) → Puts given (made_text command.task) bytes new.written
     puts_behind bytes behind = record {
@@ -276,13 +276,13 @@ module _ (given : Given) (command : Job) (spelled : command_of given.words ≡ S
           (λ name no. put.others name (λ e. no (inl e)) ∙ begun.others command spelled name no);
       model = λ c is. same_job given command spelled (λ c. MakesModel c.task → new.written c.model ≡ option_map (appended (made_text command.task)) (given.written c.model)) c is
           (λ makes. put.others command.model (λ e. apart (sym e)) ∙ begun.model command spelled makes);
-      proof = λ c is. same_job given command spelled (λ c. new.written c.proof ≡ option_map (appended bytes) (given.written c.proof)) c is (behind ∙ ap (option_map (appended bytes)) before);
+      proof = λ c is. same_job given command spelled (λ c. new.written c.proof ≡ option_map (appended bytes) (given.written c.proof)) c is (behind ∙ ap (option_map (appended bytes)) as_given);
     }
 
     -- the proof was put
     pub replied_put : result ≡ Ok tt → IsReplied given new.faults new.written (Ok reply)
     replied_put ok = record {
-      lines = lines;
+      lines = said_lines;
       report = (solved other.0).1;
       made = made_text command.task;
       reason = reason_of given new.faults reply.status all (comes_judged command.task nodes other.0 stated reply.status all solves comes).0 judges;
@@ -383,10 +383,10 @@ module _ (given : Given) (layout : Layout) (upper : Option ℤ) (model proof : L
 -- ---- replies
 
 -- a reply with this status, these lines and this proof, of which the fact holds
-pub replied_with : {E : Type 0} (Holds : Status → Output → Type 0) (status : Status) (lines : List (List ℕ)) (proof : Proof) (result : Result Reply E) → Holds status (record { lines = lines; proof = text_of proof })
+pub replied_with : {E : Type 0} (Holds : Status → Output → Type 0) (status : Status) (lines : List (List ℕ)) (proof : Proof) (result : Result Reply E) → Holds status (with_proof lines (text_of proof))
     → IfOk result (λ reply. reply.status ≡ status) → IfOk result (λ reply. reply.report.items ≡ report_of lines) → IfOk result (λ reply. reply.proof ≡ proof) → IfOk result (Replies Holds)
 replied_with Holds status lines proof (Ok reply) holds is_status is_report is_proof =
-    (lines, is_report, subst (λ p. Holds reply.status (record { lines = lines; proof = text_of p })) (sym is_proof) (subst (λ s. Holds s (record { lines = lines; proof = text_of proof })) (sym is_status) holds))
+    (lines, is_report, subst (λ p. Holds reply.status (with_proof lines (text_of p))) (sym is_proof) (subst (λ s. Holds s (with_proof lines (text_of proof))) (sym is_status) holds))
 replied_with Holds status lines proof (Err e) holds is_status is_report is_proof = tt
 
 -- the same where nothing is shown

@@ -7,7 +7,7 @@ use Rattle.std.proofs.lemmas.Option.{same_Some}
 use Rattle.solve_cli.specs.declared.words.SolveOption.{SolveOption}
 use Rattle.solve_cli.specs.declared.words.SolveOption.TheVariants.{Fixed, Upper, Nodes}
 use Rattle.solve_cli.specs.declared.words.Chosen.{Chosen}
-use Rattle.solve_cli.specs.Words.{number_within, most_upper, most_nodes, valued_option_of, first_option_of, words_in, options_of, with_option, settled, none_chosen, settled_options, are_file_names, named, files_of, most_market_rows, most_market_columns, most_start, numbered_market, market_of}
+use Rattle.solve_cli.specs.Words.{number_within, most_upper, most_nodes, valued_option_of, first_option_of, words_in, options_of, with_option, settled, none_chosen, settled_options, are_file_names, named, files_of, most_market_rows, most_market_columns, most_start, market_job, numbered_market, market_of}
 
 -- an option in front of what words spell behind it
 abbrev before : SolveOption → List (List ℕ) → Option (List SolveOption)
@@ -201,3 +201,15 @@ module _ {X : Type 0} (text : X → List ℕ) (words : List X) (rows columns sta
   market_is m n s is_m is_n is_s =
       ap (λ items. market_of (map text items)) (five_items words rows columns start model proof five is_rows is_columns is_start is_model is_proof)
       ∙ rw (is_m, is_n, is_s) refl
+
+  module _ (m n s : ℕ) (is_m : Some m ≡ number_within 1 most_market_rows (text rows)) (is_n : Some n ≡ number_within 1 most_market_columns (text columns))
+      (is_s : Some s ≡ number_within 1 most_start (text start)) where
+    -- the last two are no two names of files
+    pub not_market : are_file_names (text model) (text proof) ≡ false → market_of (map text words) ≡ None
+    not_market other = market_is (Some m) (Some n) (Some s) is_m is_n is_s ∙ ap (λ b. cond b (Some (market_job (text model) (text proof) m n s)) None) other
+
+    pub is_market : (model_name proof_name : List ℕ) → are_file_names (text model) (text proof) ≡ true → model_name ≡ text model → proof_name ≡ text proof
+        → market_of (map text words) ≡ Some (market_job model_name proof_name m n s)
+    is_market model_name proof_name files same_model same_proof =
+        market_is (Some m) (Some n) (Some s) is_m is_n is_s ∙ ap (λ b. cond b (Some (market_job (text model) (text proof) m n s)) None) files
+        ∙ rw (same_model, same_proof) refl

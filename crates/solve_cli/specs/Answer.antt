@@ -13,7 +13,6 @@ use Rattle.solve_cli.specs.declared.status.Input.TheVariants.{ModelText, ProofTe
 use Rattle.solve_cli.specs.declared.status.Status.{Status}
 use Rattle.solve_cli.specs.declared.status.Status.TheVariants.{Optimal, Infeasible, Accepted, Spent, Words, Text, TooLong, Large, ReadFault, WriteFault, NoMemory, Rejected}
 use Rattle.mps_fields.specs.Lines.{most_bytes}
-use Rattle.mps_write.specs.Markets.{market_model}
 use Rattle.solve_cli.specs.Words.{Reading, Task, solving, checking, making, budget_of, ReadsModel, MakesModel, Job, command_of}
 use Rattle.solve_cli.specs.Limits.{most_proof_bytes, untaken}
 use Rattle.solve_cli.specs.MarketTexts.{market_text, made_text, StatesMarket}
@@ -107,11 +106,11 @@ Reason given faults NoMemory out = LacksMemory given out
 Reason given faults status out = Judges given status out
 
 -- these bytes were put into MODEL where it is made, these into PROOF, and nothing was put into another output
-pub record Puts (given : Given) (made proof : List ℕ) (written : List ℕ → Option (List ℕ)) : Type 0 where
+pub record Puts (given : Given) (made bytes : List ℕ) (written : List ℕ → Option (List ℕ)) : Type 0 where
   pub no_command : command_of given.words ≡ None → Same given.written written
   pub others : (command : Job) → command_of given.words ≡ Some command → (name : List ℕ) → (IsOutput command name → ⊥) → written name ≡ given.written name
   pub model : (command : Job) → command_of given.words ≡ Some command → MakesModel command.task → written command.model ≡ option_map (appended made) (given.written command.model)
-  pub proof : (command : Job) → command_of given.words ≡ Some command → written command.proof ≡ option_map (appended proof) (given.written command.proof)
+  pub proof : (command : Job) → command_of given.words ≡ Some command → written command.proof ≡ option_map (appended bytes) (given.written command.proof)
 
 -- the status has a reason, its proof was put, and then its lines were said
 pub record SaysAll (given : Given) (faults : Faults) (written : List ℕ → Option (List ℕ)) (status : Status) (before after : Option (List ℕ)) : Type 0 where

@@ -27,7 +27,12 @@ use sequence::NoMemory;
 use std::alloc::Global;
 
 // Puts the text of a plain model.
-fn put_model<D: Desk>(alloc: Global, desk: &mut D, name: &str, model: &Model) -> Result<(), DeskStop>
+fn put_model<D: Desk>(
+    alloc: Global,
+    desk: &mut D,
+    name: &str,
+    model: &Model,
+) -> Result<(), DeskStop>
     requires name { length name.now ≤ 255 }
     requires plain { IsPlain model.now }
     ensures put { IsPut name.now (canonical_text model.now) result

@@ -708,7 +708,10 @@ fn a_market_is_put_and_solved(rt: HostRuntime) -> Result<(), Fail> {
     let status = run(alloc, &words(alloc, "market 2 3 1 m p")?, &mut desk);
     assert_eq!(rt; status.code(), 1);
     assert_eq!(rt; desk.written("m"), SPLIT_FREE.as_bytes());
-    assert_eq!(rt; desk.said(), b"MARKET 2 3 1\nINFEASIBLE\nNODES 1\nPLAIN 0\n".as_slice());
+    assert_eq!(rt;
+        desk.said(),
+        b"MARKET 2 3 1\nINFEASIBLE\nNODES 1\nPLAIN 0\n".as_slice()
+    );
     Ok(())
 }
 
@@ -744,8 +747,16 @@ fn a_market_that_is_not_put_has_no_proof(rt: HostRuntime) -> Result<(), Fail> {
         desk.fail_call(call)?;
         let status = run(alloc, &words(alloc, "market 2 3 1 m p")?, &mut desk);
         assert_eq!(rt; status.code(), 7, "where call {call} fails");
-        assert_eq!(rt; desk.written("m"), model.as_bytes(), "where call {call} fails");
-        assert_eq!(rt; !desk.written("p").is_empty(), proof, "where call {call} fails");
+        assert_eq!(rt;
+            desk.written("m"),
+            model.as_bytes(),
+            "where call {call} fails"
+        );
+        assert_eq!(rt;
+            !desk.written("p").is_empty(),
+            proof,
+            "where call {call} fails"
+        );
         assert!(rt; desk.said().is_empty(), "where call {call} fails");
     }
     Ok(())

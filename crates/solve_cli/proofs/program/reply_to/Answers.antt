@@ -1,12 +1,14 @@
-use Rattle.std.proofs.Common.{rules, [], ◌∷◌, refl, ap, subst}
+use Rattle.std.proofs.Common.{rules, [], ◌∷◌, inl, refl, ap, subst}
 use Rattle.std.specs.Prelude.{map, string_bytes, codes, Ok, Err}
+use Rattle.std.proofs.lemmas.Result.{err_from_is_err_and}
 use Rattle.solve_cli.specs.declared.status.Status.TheVariants.{Words}
-use Rattle.solve_cli.specs.Commands.{GivesCommand}
+use Rattle.solve_cli.specs.Commands.{GivesCommand, job_view}
+use Rattle.solve_cli.specs.declared.words.Command.{Command}
 use Rattle.solve_cli.specs.Words.{command_of}
 use Rattle.solve_cli.specs.Answer.{Reason}
 use Rattle.solve_cli.specs.Outputs.{text_of}
-use Rattle.solve_cli.proofs.SolveLaws.{replied_by, puts_none}
-use Rattle.solve_cli.proofs.SpellLaws.{bounded_command}
+use Rattle.solve_cli.proofs.SolveLaws.{replied_by, nothing_begun, puts_nothing, puts_none}
+use Rattle.solve_cli.proofs.SpellLaws.{IsBudget, bounded_command}
 use Rattle.solve_cli.proofs.program.reply_to.Goals as goal
 
 pub returns-in-Err-Words-clause-reason : goal.returns-in-Err-Words-clause-reason
@@ -25,4 +27,13 @@ pub check_files-requires : goal.check_files-requires
 check_files-requires g c = let range = bounded_command (map string_bytes c.args.words.now.items) _ c.in-Ok.ensures in let low = range.upper in search rules
 
 pub make_file-requires : goal.make_file-requires
-make_file-requires g c = (bounded_command (map string_bytes c.args.words.now.items) _ c.in-Ok.ensures).budget
+make_file-requires g c =
+    subst (λ (command : Command). IsBudget (job_view command).task) c.in-Market.is (bounded_command (map string_bytes c.args.words.now.items) (job_view c.in-Ok.command) c.in-Ok.ensures).budget
+
+pub returns-in_err-line_reply-in-Err-Words-clause-reason : goal.returns-in_err-line_reply-in-Err-Words-clause-reason
+returns-in_err-line_reply-in-Err-Words-clause-reason g c =
+    let p = err_from_is_err_and c.from_residual.result c.from_residual.ensures.1 in
+    rw (p.1, p.2) ([], [], inl (nothing_begun _), puts_nothing _ _ (λ name. refl))
+
+pub returns-in-Err-NoMemory-clause-reason : goal.returns-in-Err-NoMemory-clause-reason
+returns-in-Err-NoMemory-clause-reason g c = ([], [], inl (nothing_begun _), puts_nothing _ _ (λ name. refl))

@@ -55,3 +55,7 @@ returns-in-Err-NoMemory-clause-market g c = market_status _ _ _ _ _ c.say-in-Err
 
 pub returns-in-Err-NoMemory-clause-complete : goal.returns-in-Err-NoMemory-clause-complete
 returns-in-Err-NoMemory-clause-complete g c = completes _ _ _ _ _ c.say-in-Err-NoMemory.result (returns-in-Err-NoMemory-clause-answer g c)
+
+pub returns-in-Err-NoMemory-clause-inputs : goal.returns-in-Err-NoMemory-clause-inputs
+returns-in-Err-NoMemory-clause-inputs g c =
+    takes_said _ NoMemory c.say-in-Err-NoMemory.result _ _ _ _ _ _ _ c.in-Err-NoMemory.ensures.inputs c.say-in-Err-NoMemory.ensures.said c.say-in-Err-NoMemory.ensures.inputs
