@@ -9,10 +9,10 @@ use Rattle.desk_io.specs.FaultLaws.{rose_after}
 use Rattle.solve_cli.specs.declared.status.Status.{Status}
 use Rattle.solve_cli.specs.declared.status.Status.TheVariants.{Words, ReadFault, WriteFault, NoMemory}
 use Rattle.int_model.specs.declared.model.Model.{Model}
-use Rattle.solve_cli.specs.Words.{Task, solving, checking, Job, command_of}
+use Rattle.solve_cli.specs.Words.{Task, solving, checking, making, Job, command_of}
 use Rattle.solve_cli.specs.Report.{report_of}
 use Rattle.solve_cli.specs.Verdict.{Checks, Comes, Verdict}
-use Rattle.solve_cli.specs.Answer.{Given, Faults, Judges, Reason, Puts, SaysSome, Answer, IsJudged, IsOfModel, IsOfProof, IsCalm, KeepsFaults, FailedInWrite, TakesInput, Gives, Tells, IsComplete}
+use Rattle.solve_cli.specs.Answer.{Given, Faults, IsJudgedText, Judges, Reason, Puts, FailsToPut, FailsToMake, SaysSome, Answer, IsJudged, IsOfModel, IsOfProof, IsCalm, KeepsFaults, FailedInWrite, TakesInput, Gives, IsToldText, Tells, IsComplete}
 use Rattle.solve_cli.specs.Solving.{IsSaid, FailsInTake}
 use Rattle.solve_cli.specs.Outputs.{Output}
 use Rattle.solve_cli.proofs.VerdictLaws.{ends, decides, checks}
@@ -22,7 +22,7 @@ use Rattle.solve_cli.proofs.SolveLaws.{verdict_on, puts_same}
 
 -- a status whose lines were said, once its proof was put
 module _ (given : Given) (faults : Faults) (written : List ℕ → Option (List ℕ)) where
-  all_said : (status : Status) (out : Output) (before after : Option (List ℕ)) → Reason given faults status out → Puts given out.proof written
+  all_said : (status : Status) (out : Output) (before after : Option (List ℕ)) → Reason given faults status out → Puts given out.made out.proof written
       → after ≡ option_map (appended (report_of out.lines)) before → Answer given faults written before after status
   all_said WriteFault out before after reason put said = absurd reason
   all_said NoMemory out before after reason put said =
@@ -30,7 +30,7 @@ module _ (given : Given) (faults : Faults) (written : List ℕ → Option (List 
   all_said status out before after reason put said = record { out = out; reason = reason; put = put; said = said }
 
 module _ (given : Given) (faults now : Faults) (written : List ℕ → Option (List ℕ)) (status result : Status) (out : Output) (before after : Option (List ℕ))
-    (later : given.faults ≤ faults.count) (reason : Reason given faults status out) (put : Puts given out.proof written)
+    (later : given.faults ≤ faults.count) (reason : Reason given faults status out) (put : Puts given out.made out.proof written)
     (said : IsSaid (report_of out.lines) status faults now before after result) where
   some_said : AppendsSome (report_of out.lines) before after → SaysSome given faults written before after
   some_said part = record { status = status; out = out; reason = reason; put = put; said = part }
@@ -50,11 +50,11 @@ module _ (given : Given) (faults now : Faults) (written : List ℕ → Option (L
 
 -- the same of a report that is the text of those lines, over a desk that said nothing before and puts nothing while it says
 pub run_answers : (given : Given) (faults now : Faults) (put written : List ℕ → Option (List ℕ)) (status result : Status) (out : Output) (report : List ℕ) (start before after : Option (List ℕ)) → given.faults ≤ faults.count
-    → report ≡ report_of out.lines → before ≡ start → Reason given faults status out → Puts given out.proof put → Same put written → IsSaid report status faults now before after result
+    → report ≡ report_of out.lines → before ≡ start → Reason given faults status out → Puts given out.made out.proof put → Same put written → IsSaid report status faults now before after result
     → Answer given now written start after result
 run_answers given faults now put written status result out report start before after later is_text same reason puts same_outputs said =
     subst (λ b. Answer given now written b after result) same
-    (answers given faults now written status result out before after later reason (puts_same given out.proof put written same_outputs puts) (subst (λ text. IsSaid text status faults now before after result) is_text said))
+    (answers given faults now written status result out before after later reason (puts_same given out.made out.proof put written same_outputs puts) (subst (λ text. IsSaid text status faults now before after result) is_text said))
 
 -- ---- the faults
 
@@ -99,7 +99,7 @@ pub takes_said : (given : Given) (status result : Status) (report : List ℕ) (f
 takes_said given status result report faults now before after left left_now takes said same = record {
   no_command = λ none name. same name ∙ takes.no_command none name;
   others = λ command spelled name other. same name ∙ takes.others command spelled name other;
-  model = λ command spelled is. same command.model ∙ takes.model command spelled (before_say IsJudged (λ h. h) (λ h. h) report status result faults now before after said is);
+  model = λ command spelled reads is. same command.model ∙ takes.model command spelled reads (before_say IsJudged (λ h. h) (λ h. h) report status result faults now before after said is);
   proof = λ command spelled is. same command.proof ∙ takes.proof command spelled (before_say IsOfProof (λ h. h) (λ h. h) report status result faults now before after said is);
   untouched = λ command spelled is. same command.proof ∙ takes.untouched command spelled (before_say IsOfModel (λ h. h) (λ h. h) report status result faults now before after said is);
 }
@@ -109,7 +109,7 @@ pub takes_unjudged : (given : Given) (left : List ℕ → Option (List ℕ)) →
 takes_unjudged given left takes = record {
   no_command = takes.no_command;
   others = takes.others;
-  model = λ command spelled judged. absurd judged;
+  model = λ command spelled reads judged. absurd judged;
   proof = λ command spelled judged. absurd judged;
   untouched = λ command spelled judged. absurd judged;
 }
@@ -120,9 +120,16 @@ pub told_is : (left : Option (List ℕ)) (text bytes : List ℕ) → left ≡ So
 told_is None text bytes e told = absurd cc
 told_is (Some left) text bytes e told = sym told ∙ same_Some left bytes e
 
+-- the text that is judged is the one that is told
+pub text_is : (task : Task) (left : Option (List ℕ)) (text bytes : List ℕ) → IsToldText task left bytes → IsJudgedText task left text → text ≡ bytes
+text_is (solving nodes) left text bytes e told = told_is left text bytes e told
+text_is checking left text bytes e told = told_is left text bytes e told
+text_is (making rows columns start) left text bytes e told = told.canonical ∙ sym e
+
 -- solving reads none of PROOF
 comes_same : (task : Task) (one other : List ℕ) (model : Model) (status : Status) (out : Output) → (task ≡ checking → one ≡ other) → Comes task one model status out → Comes task other model status out
 comes_same (solving nodes) one other model status out same comes = comes
+comes_same (making rows columns start) one other model status out same comes = comes
 comes_same checking one other model status out same comes = subst (λ proof. Checks proof model status out) (same refl) comes
 
 -- the verdict is on the bytes that the desk tells
@@ -133,7 +140,7 @@ module _ (given : Given) (status : Status) (out : Output) (judges : Judges given
   gives_here : (text proof : List ℕ) → Tells given judges.command text proof → Gives judges.command text proof status
   gives_here text proof tells =
       let task = judges.command.task in
-      let here : judges.text ≡ text = told_is (given.left judges.command.model) judges.text text tells.in_model judges.told in
+      let here : judges.text ≡ text = text_is task (given.left judges.command.model) judges.text text tells.in_model judges.told in
       let also : task ≡ checking → judges.proof ≡ proof = λ is. told_is (given.left judges.command.proof) judges.proof proof (tells.in_proof is) judges.proof_told in (
         out,
         verdict_on judges.command.reading (Comes task judges.proof) (Comes task proof) text status out (λ model comes. comes_same task judges.proof proof model status out also comes)
@@ -189,6 +196,7 @@ pub completes : (given : Given) (now : Faults) (written : List ℕ → Option (L
 completes given now written before after Words answer = wordless_complete given now answer.reason.0
 completes given now written before after ReadFault answer = faulty_complete given now ReadFault answer.reason.rose
 completes given now written before after WriteFault (inl answer) = faulty_complete given now WriteFault (rose_after given.faults answer.earlier.count now.count answer.later answer.rose)
-completes given now written before after WriteFault (inr answer) = faulty_complete given now WriteFault answer.0.rose
+completes given now written before after WriteFault (inr answer) =
+    faulty_complete given now WriteFault (⊎_elim (λ (put : FailsToPut given now written). put.rose) (λ (made : FailsToMake given now written). made.rose) answer.0)
 completes given now written before after NoMemory answer = memory_complete given now
 completes given now written before after status answer = judged_complete given now status answer.out answer.reason

@@ -10,6 +10,7 @@ use Rattle.proof_tree.specs.Counts.{records, plain_splits, plain_splits_of_part,
 use Rattle.proof_tree.specs.Moves.{widest}
 use Rattle.proof_tree.specs.Found.{IsDone, IsSpent}
 use Rattle.slice_branch.specs.Framed.{IsAllowed}
+use Rattle.int_model.specs.declared.model.Column.{Column}
 use Rattle.int_model.specs.declared.model.Model.{Model}
 use Rattle.int_model.specs.IntegerRows.{rounded_bounds}
 use Rattle.int_model.specs.Points.{value_at}
@@ -30,28 +31,28 @@ module _ (plain : Bool) (nodes : ℕ) (model : Model) (has : HasRows model) wher
   IsPart = IsSpent (IsAllowed (rows_of model)) (rows_of model) plain nodes
 
   -- the lines of a point, by equal counts and values
-  found_same : (head : List ℕ) (value other : ℚ) (x : List ℤ) (a b c d : ℕ) → value ≡ other → a ≡ b → c ≡ d → found_lines head value model.columns x a c ≡ found_lines head other model.columns x b d
-  found_same head value other x a b c d e f g = rw (e, f, g) refl
+  found_same : (columns : List Column) (head : List ℕ) (value other : ℚ) (x : List ℤ) (a b c d : ℕ) → value ≡ other → a ≡ b → c ≡ d → found_lines head value columns x a c ≡ found_lines head other columns x b d
+  found_same columns head value other x a b c d e f g = rw (e, f, g) refl
 
   bare_same : (head : List ℕ) (a b c d : ℕ) → a ≡ b → c ≡ d → bare_lines head a c ≡ bare_lines head b d
   bare_same head a b c d f g = rw (f, g) refl
 
-  pub finds_best : IsWithinLimits (rows_of model) → nodes ≤ 1000 → (tree : Tree) (point : List ℤ) (value : ℚ) (a b : ℕ) → IsTree tree (Some point)
-      → value ≡ value_at model point → a ≡ records tree → b ≡ plain_splits tree → FindsBest nodes model (with_proof (found_lines (codes "OPTIMAL") value model.columns point a b) (proof_text (claims.Optimal point) tree))
-  finds_best limits few tree point value a b done is_value is_a is_b = record {
+  pub finds_best : (columns : List Column) → IsWithinLimits (rows_of model) → nodes ≤ 1000 → (tree : Tree) (point : List ℤ) (value : ℚ) (a b : ℕ) → IsTree tree (Some point)
+      → value ≡ value_at model point → a ≡ records tree → b ≡ plain_splits tree → FindsBest columns nodes model (with_proof (found_lines (codes "OPTIMAL") value columns point a b) (proof_text (claims.Optimal point) tree))
+  finds_best columns limits few tree point value a b done is_value is_a is_b = record {
     small = has.small;
     point = point;
     best = (has.best point).1 done.least;
     tree = tree;
     shown = done.holds;
     within = done.counted;
-    report = ap (λ lines. with_proof lines (proof_text (claims.Optimal point) tree)) (found_same (codes "OPTIMAL") value (value_at model point) point a (records tree) b (plain_splits tree) is_value is_a is_b);
+    report = ap (λ lines. with_proof lines (proof_text (claims.Optimal point) tree)) (found_same columns (codes "OPTIMAL") value (value_at model point) point a (records tree) b (plain_splits tree) is_value is_a is_b);
     accepted = written_accepted (rows_of model) (claims.Optimal point) tree limits done.known done.holds;
     short = omega (arith, few, done.counted, proof_bytes (rows_of model) (claims.Optimal point) tree limits done.known done.holds);
   }
 
-  pub finds_none : IsWithinLimits (rows_of model) → nodes ≤ 1000 → (tree : Tree) (a b : ℕ) → IsTree tree None → a ≡ records tree → b ≡ plain_splits tree → FindsNone nodes model (with_proof (bare_lines (codes "INFEASIBLE") a b) (proof_text claims.Infeasible tree))
-  finds_none limits few tree a b done is_a is_b = record {
+  pub finds_none : (columns : List Column) → IsWithinLimits (rows_of model) → nodes ≤ 1000 → (tree : Tree) (a b : ℕ) → IsTree tree None → a ≡ records tree → b ≡ plain_splits tree → FindsNone nodes model (with_proof (bare_lines (codes "INFEASIBLE") a b) (proof_text claims.Infeasible tree))
+  finds_none columns limits few tree a b done is_a is_b = record {
     small = has.small;
     none = λ x point. done.least x ((has.points x).0 point);
     tree = tree;
@@ -65,9 +66,9 @@ module _ (plain : Bool) (nodes : ℕ) (model : Model) (has : HasRows model) wher
   few_nodes : nodes < (widest (rows_of model).box + 2) ^ (2 * length (rows_of model).box) → nodes < enough_nodes model
   few_nodes few = subst (λ n. nodes < (widest (rows_of model).box + 2) ^ (2 * n)) (length-map model.columns rounded_bounds) few
 
-  pub spends_with : (part : PartTree) (point : List ℤ) (value : ℚ) (a b : ℕ) → IsPart part (Some point) → value ≡ value_at model point → a ≡ records_of_part part → b ≡ plain_splits_of_part part
-      → SpendsBudget nodes model (with_proof (found_lines (codes "SPENT") value model.columns point a b) (part_text part))
-  spends_with part point value a b spent is_value is_a is_b = record {
+  pub spends_with : (columns : List Column) (part : PartTree) (point : List ℤ) (value : ℚ) (a b : ℕ) → IsPart part (Some point) → value ≡ value_at model point → a ≡ records_of_part part → b ≡ plain_splits_of_part part
+      → SpendsBudget columns nodes model (with_proof (found_lines (codes "SPENT") value columns point a b) (part_text part))
+  spends_with columns part point value a b spent is_value is_a is_b = record {
     small = has.small;
     best = Some point;
     known = (has.points point).1 spent.known;
@@ -76,11 +77,11 @@ module _ (plain : Bool) (nodes : ℕ) (model : Model) (has : HasRows model) wher
     counted = spent.counted;
     unfinished = spent.unfinished;
     few = few_nodes spent.few;
-    report = ap (λ lines. with_proof lines (part_text part)) (found_same (codes "SPENT") value (value_at model point) point a nodes b (plain_splits_of_part part) is_value (is_a ∙ spent.counted) is_b);
+    report = ap (λ lines. with_proof lines (part_text part)) (found_same columns (codes "SPENT") value (value_at model point) point a nodes b (plain_splits_of_part part) is_value (is_a ∙ spent.counted) is_b);
   }
 
-  pub spends_without : (part : PartTree) (a b : ℕ) → IsPart part None → a ≡ records_of_part part → b ≡ plain_splits_of_part part → SpendsBudget nodes model (with_proof (bare_lines (codes "SPENT") a b) (part_text part))
-  spends_without part a b spent is_a is_b = record {
+  pub spends_without : (columns : List Column) (part : PartTree) (a b : ℕ) → IsPart part None → a ≡ records_of_part part → b ≡ plain_splits_of_part part → SpendsBudget columns nodes model (with_proof (bare_lines (codes "SPENT") a b) (part_text part))
+  spends_without columns part a b spent is_a is_b = record {
     small = has.small;
     best = None;
     known = tt;

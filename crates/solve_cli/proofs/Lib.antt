@@ -8,6 +8,7 @@ pub mod InputLaws
 pub mod PutLaws
 pub mod AnswerLaws
 pub mod SolveLaws
+pub mod MadeLaws
 pub mod VerdictLaws
 pub mod HeadlineLaws
 pub mod FoundLaws

@@ -8,6 +8,7 @@ use Rattle.desk_io.specs.declared.desk.DeskStop.{DeskStop}
 use Rattle.desk_io.specs.declared.desk.DeskStop.TheVariants as stops
 use Rattle.int_model.specs.declared.part.Part.{Part}
 use Rattle.int_model.specs.declared.part.Part.TheVariants as parts
+use Rattle.int_model.specs.declared.model.Column.{Column}
 use Rattle.int_model.specs.declared.model.Model.{Model}
 use Rattle.int_model.specs.IntegerRows.{IntegerRows}
 use Rattle.int_model.specs.Large.{IsFirstLarge}
@@ -17,15 +18,16 @@ use Rattle.solve_cli.specs.declared.status.Input.TheVariants.{ModelText, ProofTe
 use Rattle.solve_cli.specs.declared.status.Status.{Status}
 use Rattle.solve_cli.specs.declared.status.Status.TheVariants.{Optimal, Infeasible, Accepted, Spent, Words, Text, TooLong, Large, ReadFault, WriteFault, NoMemory, Rejected}
 use Rattle.solve_cli.specs.declared.reply.Reply.{Reply}
-use Rattle.solve_cli.specs.Words.{Reading, reading, Task, solving, checking, Job, job, command_of}
+use Rattle.solve_cli.specs.Words.{Reading, reading, Task, solving, checking, making, budget_of, ReadsModel, MakesModel, Job, job, command_of}
 use Rattle.solve_cli.specs.Limits.{most_proof_bytes, untaken}
 use Rattle.solve_cli.specs.Report.{report_of, IsPartOf}
-use Rattle.solve_cli.specs.Outputs.{Output, only, text_of}
+use Rattle.solve_cli.specs.Outputs.{Output, only, with_proof, text_of}
+use Rattle.solve_cli.specs.MarketTexts.{made_text}
 use Rattle.solve_cli.specs.declared.proof.Proof.{Proof}
 use Rattle.solve_cli.specs.declared.proof.Proof.TheVariants.{Nothing}
 use Rattle.solve_cli.specs.Putting.{Told, IsPut}
 use Rattle.solve_cli.specs.Verdict.{Solves, Checks, Comes, States, Verdict, IsUnfit}
-use Rattle.solve_cli.specs.Answer.{Given, Faults, Judges, IsInput, IsStarted, Puts, Reason, IsJudged, IsOfModel, IsOfProof, KeepsFaults, TakesInput}
+use Rattle.solve_cli.specs.Answer.{Given, Faults, IsJudgedText, Judges, IsInput, IsOutput, IsBegun, IsStarted, Puts, Reason, IsJudged, IsOfModel, IsOfProof, KeepsFaults, TakesInput}
 use Rattle.solve_cli.specs.Solving.{output_of, Replies, IsReplied, OfInput, IsTried, StatesRows, HasRows, FailsInTake, FailsAsTold}
 use Rattle.solve_cli.proofs.PutLaws.{appended_nothing}
 
@@ -46,12 +48,13 @@ verdict_on reading Holds Follows text (Text fault) out step v = v
 verdict_on reading Holds Follows text (TooLong ModelText) out step v = v
 verdict_on reading Holds Follows text status out step v = record { short = v.short; model = v.model; states = v.states; holds = step v.model v.holds }
 
--- a model with a part that is too large comes to that under each task
-unfit_comes : (task : Task) (proof : List ℕ) (model : Model) (status : Status) (out : Output) → IsUnfit model status out → Comes task proof model status out
-unfit_comes (solving nodes) proof model (Large part) out unfit = unfit
-unfit_comes (solving nodes) proof model status out unfit = absurd unfit
-unfit_comes checking proof model (Large part) out unfit = unfit
-unfit_comes checking proof model status out unfit = absurd unfit
+-- a model with a part that is too large comes to that under each task that reads a model
+unfit_comes : (task : Task) → ReadsModel task → (proof : List ℕ) (model : Model) (status : Status) (out : Output) → IsUnfit model status out → Comes task proof model status out
+unfit_comes (solving nodes) reads proof model (Large part) out unfit = unfit
+unfit_comes (solving nodes) reads proof model status out unfit = absurd unfit
+unfit_comes checking reads proof model (Large part) out unfit = unfit
+unfit_comes checking reads proof model status out unfit = absurd unfit
+unfit_comes (making rows columns start) reads proof model status out unfit = absurd reads
 
 -- what a model comes to, as the verdict on the text that states it
 stated_comes : (task : Task) (reading : Reading) (proof text : List ℕ) (model : Model) (status : Status) (out : Output) → length text ≤ most_bytes → States reading text model
@@ -62,6 +65,9 @@ stated_comes (solving nodes) reading proof text model status out short states co
 stated_comes checking reading proof text model (Text fault) out short states comes = absurd comes
 stated_comes checking reading proof text model (TooLong ModelText) out short states comes = absurd comes
 stated_comes checking reading proof text model status out short states comes = record { short = short; model = model; states = states; holds = comes }
+stated_comes (making rows columns start) reading proof text model (Text fault) out short states comes = absurd comes.solved
+stated_comes (making rows columns start) reading proof text model (TooLong ModelText) out short states comes = absurd comes.solved
+stated_comes (making rows columns start) reading proof text model status out short states comes = record { short = short; model = model; states = states; holds = comes }
 
 -- some bytes that may be those of an input
 some_bytes : (left : Option (List ℕ)) → (bytes : List ℕ) × IfSome left (λ l. l ≡ bytes)
@@ -70,71 +76,97 @@ some_bytes (Some bytes) = (bytes, refl)
 
 -- ---- reasons
 
-module _ (given : Given) (command : Job) (spelled : command_of given.words ≡ Some command) where
-  judges_model : (status : Status) (out : Output) → OfInput (given.left command.model) (λ text. Verdict command.reading IsUnfit text status out) → Judges given status out
-  judges_model status out of =
+-- what holds of a command holds of each that the words spell
+pub same_job : (given : Given) (command : Job) → command_of given.words ≡ Some command → (P : Job → Type 0) (other : Job) → command_of given.words ≡ Some other → P command → P other
+same_job given command spelled P other is here = subst P (same_Some command other (sym spelled ∙ is)) here
+
+-- what was left is what is judged, where the model is read
+read_text : (task : Task) (left : Option (List ℕ)) (text : List ℕ) → ReadsModel task → IfSome left (λ bytes. bytes ≡ text) → IsJudgedText task left text
+read_text (solving nodes) left text reads told = told
+read_text checking left text reads told = told
+read_text (making rows columns start) left text reads told = absurd reads
+
+-- a model that is read is not made
+none_made : (task : Task) → ReadsModel task → [] ≡ made_text task
+none_made (solving nodes) reads = refl
+none_made checking reads = refl
+none_made (making rows columns start) reads = absurd reads
+
+not_made : (task : Task) → ReadsModel task → MakesModel task → ⊥
+not_made (solving nodes) reads makes = makes
+not_made checking reads makes = makes
+not_made (making rows columns start) reads makes = reads
+
+module _ (given : Given) (command : Job) (spelled : command_of given.words ≡ Some command) (reads : ReadsModel command.task) where
+  judges_model : (status : Status) (out : Output) → out.made ≡ [] → OfInput (given.left command.model) (λ text. Verdict command.reading IsUnfit text status out) → Judges given status out
+  judges_model status out none of =
       let other = some_bytes (given.left command.proof) in
       record {
         command = command;
         spelled = spelled;
         text = of.text;
-        told = of.told;
+        told = read_text command.task (given.left command.model) of.text reads of.told;
         proof = other.0;
         proof_told = other.1;
-        verdict = verdict_on command.reading IsUnfit (Comes command.task other.0) of.text status out (λ model unfit. unfit_comes command.task other.0 model status out unfit) of.holds;
+        made = none ∙ none_made command.task reads;
+        verdict = verdict_on command.reading IsUnfit (Comes command.task other.0) of.text status out (λ model unfit. unfit_comes command.task reads other.0 model status out unfit) of.holds;
       }
 
   -- what is said of MODEL alone has a reason
-  pub model_reason : (faults : Faults) (status : Status) (out : Output) → IsTried command.model given.faults faults (given.left command.model) (Verdict command.reading IsUnfit) status out
+  pub model_reason : (faults : Faults) (status : Status) (out : Output) → out.made ≡ [] → IsTried command.model given.faults faults (given.left command.model) (Verdict command.reading IsUnfit) status out
       → Reason given faults status out
-  model_reason faults ReadFault out tried = record { command = command; spelled = spelled; name = command.model; input = inl refl; rose = tried.rose; last = tried.last; report = tried.report }
-  model_reason faults Words out tried = absurd tried.holds.holds
-  model_reason faults WriteFault out tried = absurd tried.holds.holds
-  model_reason faults NoMemory out tried = absurd tried.holds.holds
-  model_reason faults status out tried = judges_model status out tried
+  model_reason faults ReadFault out none tried = record { command = command; spelled = spelled; name = command.model; input = inl (reads, refl); rose = tried.rose; last = tried.last; report = tried.report }
+  model_reason faults Words out none tried = absurd tried.holds.holds
+  model_reason faults WriteFault out none tried = absurd tried.holds.holds
+  model_reason faults NoMemory out none tried = absurd tried.holds.holds
+  model_reason faults status out none tried = judges_model status out none tried
 
   -- these bytes behind what was there
-  pub puts : (bytes : List ℕ) (written : List ℕ → Option (List ℕ)) → SameButAt command.proof given.written written
-      → written command.proof ≡ option_map (appended bytes) (given.written command.proof) → Puts given bytes written
-  puts bytes written others put = record {
+  pub puts : (made bytes : List ℕ) (written : List ℕ → Option (List ℕ)) → SameButAt command.proof given.written written
+      → written command.proof ≡ option_map (appended bytes) (given.written command.proof) → Puts given made bytes written
+  puts made bytes written others put = record {
     no_command = λ none. absurd (none-some command (sym none ∙ spelled));
-    others = λ other is. subst (λ (c : Job). SameButAt c.proof given.written written) (same_Some command other (sym spelled ∙ is)) others;
+    others = λ other is. subst (λ (c : Job). (name : List ℕ) → (IsOutput c name → ⊥) → written name ≡ given.written name) (same_Some command other (sym spelled ∙ is)) (λ name no. others name (λ e. no (inl e)));
+    model = λ other is makes. absurd (not_made command.task reads (subst (λ (c : Job). MakesModel c.task) (sym (same_Some command other (sym spelled ∙ is))) makes));
     proof = λ other is. subst (λ (c : Job). written c.proof ≡ option_map (appended bytes) (given.written c.proof)) (same_Some command other (sym spelled ∙ is)) put;
   }
 
   -- ---- the inputs
-
-  same_command : (P : Job → Type 0) (other : Job) → command_of given.words ≡ Some other → P command → P other
-  same_command P other is here = subst P (same_Some command other (sym spelled ∙ is)) here
 
   -- MODEL alone was taken
   pub takes_model : (left : List ℕ → Option (List ℕ)) (status : Status) → command.proof ≢ command.model → SameButAt command.model given.left left
       → (IsJudged status → left command.model ≡ option_map (untaken most_bytes) (given.left command.model)) → (IsOfProof status → ⊥) → TakesInput given left status
   takes_model left status apart others model other = record {
     no_command = λ none. absurd (none-some command (sym none ∙ spelled));
-    others = λ c is. same_command (λ c. (name : List ℕ) → (IsInput c name → ⊥) → left name ≡ given.left name) c is (λ name no_input. others name (λ e. no_input (inl e)));
-    model = λ c is. same_command (λ c. IsJudged status → left c.model ≡ option_map (untaken most_bytes) (given.left c.model)) c is model;
+    others = λ c is. same_job given command spelled (λ c. (name : List ℕ) → (IsInput c name → ⊥) → left name ≡ given.left name) c is (λ name no_input. others name (λ e. no_input (inl (reads, e))));
+    model = λ c is reads. same_job given command spelled (λ c. IsJudged status → left c.model ≡ option_map (untaken most_bytes) (given.left c.model)) c is model;
     proof = λ c is judged. absurd (other judged);
-    untouched = λ c is judged. same_command (λ c. left c.proof ≡ given.left c.proof) c is (others command.proof apart);
+    untouched = λ c is judged. same_job given command spelled (λ c. left c.proof ≡ given.left c.proof) c is (others command.proof apart);
   }
 
 -- nothing was put
-pub puts_nothing : (given : Given) (written : List ℕ → Option (List ℕ)) → Same given.written written → Puts given [] written
+pub puts_nothing : (given : Given) (written : List ℕ → Option (List ℕ)) → Same given.written written → Puts given [] [] written
 puts_nothing given written same = record {
   no_command = λ none. same;
   others = λ command is name apart. same name;
+  model = λ command is makes. same command.model ∙ appended_nothing (given.written command.model);
   proof = λ command is. same command.proof ∙ appended_nothing (given.written command.proof);
 }
 
+-- no byte of anything
+pub nothing_begun : (given : Given) → IsBegun given [] []
+nothing_begun given = record { count = 0; first = λ command is. refl; none = refl }
+
 -- the text of no proof
-pub puts_none : (given : Given) (proof : Proof) (written : List ℕ → Option (List ℕ)) → text_of proof ≡ [] → Same given.written written → Puts given (text_of proof) written
-puts_none given proof written none same = subst (λ bytes. Puts given bytes written) (sym none) (puts_nothing given written same)
+pub puts_none : (given : Given) (proof : Proof) (written : List ℕ → Option (List ℕ)) → text_of proof ≡ [] → Same given.written written → Puts given [] (text_of proof) written
+puts_none given proof written none same = subst (λ bytes. Puts given [] bytes written) (sym none) (puts_nothing given written same)
 
 -- and the same in outputs that are the same
-pub puts_same : (given : Given) (bytes : List ℕ) (before after : List ℕ → Option (List ℕ)) → Same before after → Puts given bytes before → Puts given bytes after
-puts_same given bytes before after same put = record {
+pub puts_same : (given : Given) (made bytes : List ℕ) (before after : List ℕ → Option (List ℕ)) → Same before after → Puts given made bytes before → Puts given made bytes after
+puts_same given made bytes before after same put = record {
   no_command = λ none name. same name ∙ put.no_command none name;
   others = λ command is name apart. same name ∙ put.others command is name apart;
+  model = λ command is makes. same command.model ∙ put.model command is makes;
   proof = λ command is. same command.proof ∙ put.proof command is;
 }
 
@@ -161,23 +193,36 @@ pub takes_some : (given : Given) (command : Job) (left : List ℕ → Option (Li
     → ((name : List ℕ) → (IsInput command name → ⊥) → left name ≡ given.left name) → TakesInput given left NoMemory
 takes_some given command left spelled others = record {
   no_command = λ none. absurd (none-some command (sym none ∙ spelled));
-  others = λ c is. same_command given command spelled (λ c. (name : List ℕ) → (IsInput c name → ⊥) → left name ≡ given.left name) c is others;
-  model = λ c is judged. absurd judged;
+  others = λ c is. same_job given command spelled (λ c. (name : List ℕ) → (IsInput c name → ⊥) → left name ≡ given.left name) c is others;
+  model = λ c is reads judged. absurd judged;
   proof = λ c is judged. absurd judged;
   untouched = λ c is judged. absurd judged;
 }
 
 -- ---- a model that is solved
 
-solves_judged : (nodes : ℕ) (model : Model) (status : Status) (out : Output) → Solves nodes model status out → IsJudged status × (IsOfProof status → ⊥)
-solves_judged nodes model Optimal out s = (tt, λ is. is)
-solves_judged nodes model Infeasible out s = (tt, λ is. is)
-solves_judged nodes model Spent out s = (tt, λ is. is)
-solves_judged nodes model (Large part) out s = (tt, λ is. is)
-solves_judged nodes model status out s = absurd s
+solves_judged : (columns : List Column) (nodes : ℕ) (model : Model) (status : Status) (out : Output) → Solves columns nodes model status out → IsJudged status × (IsOfProof status → ⊥)
+solves_judged columns nodes model Optimal out s = (tt, λ is. is)
+solves_judged columns nodes model Infeasible out s = (tt, λ is. is)
+solves_judged columns nodes model Spent out s = (tt, λ is. is)
+solves_judged columns nodes model (Large part) out s = (tt, λ is. is)
+solves_judged columns nodes model status out s = absurd s
 
-pub solves_other : (nodes : ℕ) (model : Model) (status : Status) (out : Output) → Solves nodes model status out → IsOfProof status → ⊥
-solves_other nodes model status out s = (solves_judged nodes model status out s).1
+pub solves_other : (columns : List Column) (nodes : ℕ) (model : Model) (status : Status) (out : Output) → Solves columns nodes model status out → IsOfProof status → ⊥
+solves_other columns nodes model status out s = (solves_judged columns nodes model status out s).1
+
+-- under each command with a budget
+pub comes_judged : (task : Task) (nodes : ℕ) (proof : List ℕ) (model : Model) (status : Status) (out : Output) → budget_of task ≡ Some nodes → Comes task proof model status out → IsJudged status × (IsOfProof status → ⊥)
+comes_judged (solving count) nodes proof model status out is comes = solves_judged model.columns count model status out comes
+comes_judged checking nodes proof model status out is comes = absurd cc
+comes_judged (making rows columns start) nodes proof model status out is comes = solves_judged [] 1000 model status (with_proof comes.lines out.proof) comes.solved
+
+-- the same with the market that is made
+comes_made : (task : Task) (other : List ℕ) (model : Model) (status : Status) (lines : List (List ℕ)) (bytes : List ℕ) → Comes task other model status (with_proof lines bytes)
+    → Comes task other model status (record { lines = lines; made = made_text task; proof = bytes })
+comes_made (solving nodes) other model status lines bytes comes = comes
+comes_made checking other model status lines bytes comes = comes
+comes_made (making rows columns start) other model status lines bytes comes = record { lines = comes.lines; summary = comes.summary; solved = comes.solved }
 
 reason_of : (given : Given) (faults : Faults) (status : Status) (out : Output) → IsJudged status → Judges given status out → Reason given faults status out
 reason_of given faults Words out is judges = absurd is
@@ -186,61 +231,84 @@ reason_of given faults WriteFault out is judges = absurd is
 reason_of given faults NoMemory out is judges = absurd is
 reason_of given faults status out is judges = judges
 
-module _ (given : Given) (layout : Layout) (upper : Option ℤ) (nodes : ℕ) (model proof : List ℕ) (spelled : command_of given.words ≡ Some (job (solving nodes) layout upper model proof))
-    (stated : Model) (rows : IntegerRows) (of : OfInput (given.left model) (λ text. StatesRows (reading layout upper) text stated rows))
-    (reply : Reply) (solved : Replies (Solves nodes stated) reply) where
-  abbrev command : Job
-  command = job (solving nodes) layout upper model proof
+-- a text that is judged under a command with a budget, the reply to the model that it states, and the desk at the put of the proof:
+-- the outputs there are those that the run was given, but that the market that is made was put
+module _ (given : Given) (command : Job) (spelled : command_of given.words ≡ Some command) (nodes : ℕ) (solves : budget_of command.task ≡ Some nodes)
+    (text : List ℕ) (told : IsJudgedText command.task (given.left command.model) text) (short : length text ≤ most_bytes)
+    (stated : Model) (states : States command.reading text stated) (reply : Reply)
+    (solved : (other : List ℕ) → Replies (Comes command.task other stated) reply) where
+  abbrev other : (proof : List ℕ) × IfSome (given.left command.proof) (λ l. l ≡ proof)
+  other = some_bytes (given.left command.proof)
 
-  solve_judges : Judges given reply.status (output_of reply solved.0)
-  solve_judges =
-      let other = some_bytes (given.left proof) in
-      record {
-        command = command;
-        spelled = spelled;
-        text = of.text;
-        told = of.told;
-        proof = other.0;
-        proof_told = other.1;
-        verdict = stated_comes (solving nodes) (reading layout upper) other.0 of.text stated reply.status (output_of reply solved.0) of.holds.short of.holds.states solved.2;
-      }
+  abbrev said_lines : List (List ℕ)
+  said_lines = (solved other.0).0
 
-  started : (n : ℕ) → IsStarted given (take n (text_of reply.proof))
-  started n = record { status = reply.status; whole = output_of reply solved.0; judged = solve_judges; count = n; bytes = refl }
+  abbrev all : Output
+  all = record { lines = said_lines; made = made_text command.task; proof = text_of reply.proof }
 
-  -- the desk at the put has the outputs that the run was given
-  module _ (result : Result (Unit {0}) DeskStop) (old new : Told) (same : Same given.written old.written) (later : given.faults ≤ old.faults.count) (put : IsPut proof (text_of reply.proof) result old new) where
-    others : SameButAt proof given.written new.written
-    others = λ name apart. put.others name apart ∙ same name
+  comes : Comes command.task other.0 stated reply.status all
+  comes = comes_made command.task other.0 stated reply.status said_lines (text_of reply.proof) (solved other.0).2
+
+  judges : Judges given reply.status all
+  judges = record {
+    command = command;
+    spelled = spelled;
+    text = text;
+    told = told;
+    proof = other.0;
+    proof_told = other.1;
+    verdict = stated_comes command.task command.reading other.0 text stated reply.status all short states comes;
+    made = refl;
+  }
+
+  pub started : (n : ℕ) → IsStarted given (made_text command.task) (take n (text_of reply.proof))
+  started n = record { status = reply.status; whole = all; judged = judges; before = refl; count = n; bytes = refl }
+
+  module _ (result : Result (Unit {0}) DeskStop) (old new : Told) (begun : Puts given (made_text command.task) [] old.written) (apart : command.proof ≢ command.model)
+      (later : given.faults ≤ old.faults.count) (put : IsPut command.proof (text_of reply.proof) result old new) where
+    as_given : old.written command.proof ≡ given.written command.proof
+    as_given = begun.proof command spelled ∙ sym (appended_nothing (given.written command.proof))
+
+    puts_behind : (bytes : List ℕ) → new.written command.proof ≡ option_map (appended bytes) (old.written command.proof) → Puts given (made_text command.task) bytes new.written
+    puts_behind bytes behind = record {
+      no_command = λ none. absurd (none-some command (sym none ∙ spelled));
+      others = λ c is. same_job given command spelled (λ c. (name : List ℕ) → (IsOutput c name → ⊥) → new.written name ≡ given.written name) c is
+          (λ name no. put.others name (λ e. no (inl e)) ∙ begun.others command spelled name no);
+      model = λ c is. same_job given command spelled (λ c. MakesModel c.task → new.written c.model ≡ option_map (appended (made_text command.task)) (given.written c.model)) c is
+          (λ makes. put.others command.model (λ e. apart (sym e)) ∙ begun.model command spelled makes);
+      proof = λ c is. same_job given command spelled (λ c. new.written c.proof ≡ option_map (appended bytes) (given.written c.proof)) c is (behind ∙ ap (option_map (appended bytes)) as_given);
+    }
 
     -- the proof was put
     pub replied_put : result ≡ Ok tt → IsReplied given new.faults new.written (Ok reply)
-    replied_put ok =
-        let whole : new.written proof ≡ option_map (appended (text_of reply.proof)) (old.written proof) = subst (λ (r : Result (Unit {0}) DeskStop). OnOk r (new.written proof ≡ option_map (appended (text_of reply.proof)) (old.written proof))) ok put.ok in (
-          (solved.0, solved.1, reason_of given new.faults reply.status (output_of reply solved.0) (solves_judged nodes stated reply.status (output_of reply solved.0) solved.2).0 solve_judges),
-          puts given command spelled (text_of reply.proof) new.written others (whole ∙ ap (option_map (appended (text_of reply.proof))) (same proof)),
-        )
+    replied_put ok = record {
+      lines = said_lines;
+      report = (solved other.0).1;
+      made = made_text command.task;
+      reason = reason_of given new.faults reply.status all (comes_judged command.task nodes other.0 stated reply.status all solves comes).0 judges;
+      put = puts_behind (text_of reply.proof)
+          (subst (λ (r : Result (Unit {0}) DeskStop). OnOk r (new.written command.proof ≡ option_map (appended (text_of reply.proof)) (old.written command.proof))) ok put.ok);
+    }
 
     -- or it was not
     pub replied_stop : (e : DeskStop) → result ≡ Err e → IsReplied given new.faults new.written (Err e)
     replied_stop stops.NoMemory stopped =
-        let some : AppendsSome (text_of reply.proof) (old.written proof) (new.written proof) = subst (λ (r : Result (Unit {0}) DeskStop). OnErr r (AppendsSome (text_of reply.proof) (old.written proof) (new.written proof))) stopped put.err in
-        let bytes : List ℕ = take some.0 (text_of reply.proof) in
-        (bytes, inr (started some.0), puts given command spelled bytes new.written others (some.1 ∙ ap (option_map (appended bytes)) (same proof)))
+        let some : AppendsSome (text_of reply.proof) (old.written command.proof) (new.written command.proof) = subst (λ (r : Result (Unit {0}) DeskStop). OnErr r (AppendsSome (text_of reply.proof) (old.written command.proof) (new.written command.proof))) stopped put.err in
+        (made_text command.task, take some.0 (text_of reply.proof), inr (started some.0), puts_behind (take some.0 (text_of reply.proof)) some.1)
     replied_stop stops.Failed stopped =
-        let some : AppendsSome (text_of reply.proof) (old.written proof) (new.written proof) = subst (λ (r : Result (Unit {0}) DeskStop). OnErr r (AppendsSome (text_of reply.proof) (old.written proof) (new.written proof))) stopped put.err in
-        let bytes : List ℕ = take some.0 (text_of reply.proof) in
+        let some : AppendsSome (text_of reply.proof) (old.written command.proof) (new.written command.proof) = subst (λ (r : Result (Unit {0}) DeskStop). OnErr r (AppendsSome (text_of reply.proof) (old.written command.proof) (new.written command.proof))) stopped put.err in
         let failed : IsErrOf result stops.Failed = subst (λ (r : Result (Unit {0}) DeskStop). IsErrOf r stops.Failed) (sym stopped) refl in
-        record {
+        inl (record {
           command = command;
           spelled = spelled;
-          solves = (nodes, refl);
-          bytes = bytes;
+          solves = (nodes, solves);
+          made = made_text command.task;
+          bytes = take some.0 (text_of reply.proof);
           started = started some.0;
-          put = puts given command spelled bytes new.written others (some.1 ∙ ap (option_map (appended bytes)) (same proof));
+          put = puts_behind (take some.0 (text_of reply.proof)) some.1;
           rose = rose_after given.faults old.faults.count new.faults.count later (put.rose failed);
           last = put.place failed;
-        }
+        })
 
 -- ---- a proof that is checked
 
@@ -269,21 +337,22 @@ module _ (given : Given) (layout : Layout) (upper : Option ℤ) (model proof : L
   abbrev check : Job
   check = job checking layout upper model proof
 
-  check_judges : (status : Status) (out : Output) → OfInput (given.left proof) (λ text. Checks text stated status out) → Judges given status out
-  check_judges status out checked = record {
+  check_judges : (status : Status) (out : Output) → out.made ≡ [] → OfInput (given.left proof) (λ text. Checks text stated status out) → Judges given status out
+  check_judges status out none checked = record {
     command = check;
     spelled = spelled;
     text = of.text;
     told = of.told;
     proof = checked.text;
     proof_told = checked.told;
+    made = none;
     verdict = stated_comes checking (reading layout upper) checked.text of.text stated status out of.holds.short of.holds.states checked.holds;
   }
 
   -- what is said of PROOF has a reason
-  pub proof_reason : (between : ℕ) (faults : Faults) (status : Status) (out : Output) → given.faults ≤ between → between ≤ faults.count
+  pub proof_reason : (between : ℕ) (faults : Faults) (status : Status) (out : Output) → out.made ≡ [] → given.faults ≤ between → between ≤ faults.count
       → IsTried proof between faults (given.left proof) (λ text. Checks text stated) status out → Reason given faults status out
-  proof_reason between faults ReadFault out later more tried = record {
+  proof_reason between faults ReadFault out none later more tried = record {
     command = check;
     spelled = spelled;
     name = proof;
@@ -292,21 +361,21 @@ module _ (given : Given) (layout : Layout) (upper : Option ℤ) (model proof : L
     last = tried.last;
     report = tried.report;
   }
-  proof_reason between faults Words out later more tried = absurd tried.holds
-  proof_reason between faults WriteFault out later more tried = absurd tried.holds
-  proof_reason between faults NoMemory out later more tried = absurd tried.holds
-  proof_reason between faults status out later more tried = check_judges status out tried
+  proof_reason between faults Words out none later more tried = absurd tried.holds
+  proof_reason between faults WriteFault out none later more tried = absurd tried.holds
+  proof_reason between faults NoMemory out none later more tried = absurd tried.holds
+  proof_reason between faults status out none later more tried = check_judges status out none tried
 
   -- MODEL was taken, and then PROOF
   pub takes_both : (between left : List ℕ → Option (List ℕ)) (status : Status) → proof ≢ model → SameButAt model given.left between → between model ≡ option_map (untaken most_bytes) (given.left model)
       → SameButAt proof between left → (IsOfProof status → left proof ≡ option_map (untaken most_proof_bytes) (between proof)) → (IsOfModel status → ⊥) → TakesInput given left status
   takes_both between left status apart first taken second all other = record {
     no_command = λ none. absurd (none-some check (sym none ∙ spelled));
-    others = λ c is. same_command given check spelled (λ c. (name : List ℕ) → (IsInput c name → ⊥) → left name ≡ given.left name) c is
-        (λ name no_input. second name (λ e. no_input (inr (refl, e))) ∙ first name (λ e. no_input (inl e)));
-    model = λ c is. same_command given check spelled (λ c. IsJudged status → left c.model ≡ option_map (untaken most_bytes) (given.left c.model)) c is
+    others = λ c is. same_job given check spelled (λ c. (name : List ℕ) → (IsInput c name → ⊥) → left name ≡ given.left name) c is
+        (λ name no_input. second name (λ e. no_input (inr (refl, e))) ∙ first name (λ e. no_input (inl (tt, e))));
+    model = λ c is reads. same_job given check spelled (λ c. IsJudged status → left c.model ≡ option_map (untaken most_bytes) (given.left c.model)) c is
         (λ judged. second model (λ e. apart (sym e)) ∙ taken);
-    proof = λ c is. same_command given check spelled (λ c. IsOfProof status → left c.proof ≡ option_map (untaken most_proof_bytes) (given.left c.proof)) c is
+    proof = λ c is. same_job given check spelled (λ c. IsOfProof status → left c.proof ≡ option_map (untaken most_proof_bytes) (given.left c.proof)) c is
         (λ judged. all judged ∙ ap (option_map (untaken most_proof_bytes)) (first proof apart));
     untouched = λ c is judged. absurd (other judged);
   }
@@ -314,10 +383,10 @@ module _ (given : Given) (layout : Layout) (upper : Option ℤ) (model proof : L
 -- ---- replies
 
 -- a reply with this status, these lines and this proof, of which the fact holds
-pub replied_with : {E : Type 0} (Holds : Status → Output → Type 0) (status : Status) (lines : List (List ℕ)) (proof : Proof) (result : Result Reply E) → Holds status (record { lines = lines; proof = text_of proof })
+pub replied_with : {E : Type 0} (Holds : Status → Output → Type 0) (status : Status) (lines : List (List ℕ)) (proof : Proof) (result : Result Reply E) → Holds status (with_proof lines (text_of proof))
     → IfOk result (λ reply. reply.status ≡ status) → IfOk result (λ reply. reply.report.items ≡ report_of lines) → IfOk result (λ reply. reply.proof ≡ proof) → IfOk result (Replies Holds)
 replied_with Holds status lines proof (Ok reply) holds is_status is_report is_proof =
-    (lines, is_report, subst (λ p. Holds reply.status (record { lines = lines; proof = text_of p })) (sym is_proof) (subst (λ s. Holds s (record { lines = lines; proof = text_of proof })) (sym is_status) holds))
+    (lines, is_report, subst (λ p. Holds reply.status (with_proof lines (text_of p))) (sym is_proof) (subst (λ s. Holds s (with_proof lines (text_of proof))) (sym is_status) holds))
 replied_with Holds status lines proof (Err e) holds is_status is_report is_proof = tt
 
 -- the same where nothing is shown

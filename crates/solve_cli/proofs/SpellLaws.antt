@@ -16,7 +16,7 @@ use Rattle.solve_cli.specs.declared.words.SolveOption.TheVariants.{Fixed, Upper,
 use Rattle.solve_cli.specs.declared.words.Chosen.{Chosen}
 use Rattle.solve_cli.specs.declared.words.Files.{Files}
 use Rattle.solve_cli.specs.FileNames.{is_file_name}
-use Rattle.solve_cli.specs.Words.{Reading, reading, Task, solving, checking, Job, job, number_within, most_upper, most_nodes, valued_option_of, options_of, option_words, IsOption, settled, with_fixed, with_upper, with_nodes, with_option, none_chosen, settled_options, named, are_file_names, files_of, solve_of, check_of, command_of, task_word, HasBudget, Spells}
+use Rattle.solve_cli.specs.Words.{Reading, reading, Task, solving, checking, making, MakesModel, Job, job, market_job, number_within, most_upper, most_nodes, most_market_rows, most_market_columns, most_start, valued_option_of, options_of, option_words, IsOption, settled, with_fixed, with_upper, with_nodes, with_option, none_chosen, settled_options, named, are_file_names, files_of, solve_of, check_of, numbered_market, market_of, command_of, task_words, HasBudget, HasNumbers, IsMarket, Spells}
 use Rattle.solve_cli.proofs.NumberSpelling.{number_spelled, spelled_number}
 
 -- ---- steps of options
@@ -177,23 +177,24 @@ files_spelled words files e =
     }
 
 -- a first word in front of them is a command
-spelled_with : (words : List (List ℕ)) (files : Files) (task : Task) → SpellsFiles words files → HasBudget task files.chosen.nodes
-    → Spells (task_word task ∷ words) (job task files.chosen.layout files.chosen.upper files.model files.proof)
-spelled_with words files task s budget = record {
+spelled_with : (words : List (List ℕ)) (files : Files) (task : Task) → SpellsFiles words files → HasBudget task files.chosen.nodes → ((options : List SolveOption) → HasNumbers task options)
+    → Spells (task_words task ++ words) (job task files.chosen.layout files.chosen.upper files.model files.proof)
+spelled_with words files task s budget numbers = record {
   options = s.options;
   in_range = s.in_range;
   chosen = files.chosen;
   once = s.once;
   meant = refl;
   budget = budget;
+  numbers = numbers s.options;
   names = s.names;
-  spelled = ap (λ rest. task_word task ∷ rest) s.spelled;
+  spelled = ap (λ rest. task_words task ++ rest) s.spelled;
 }
 
 solve_spelled : (words : List (List ℕ)) (command : Job) → option_map solve_of (files_of words) ≡ Some command → Spells (codes "solve" ∷ words) command
 solve_spelled words command e =
     let files = map_some solve_of (files_of words) command e in
-    subst (Spells (codes "solve" ∷ words)) files.2 (spelled_with words files.0 (solving (unwrap_or files.0.chosen.nodes 1000)) (files_spelled words files.0 files.1) refl)
+    subst (Spells (codes "solve" ∷ words)) files.2 (spelled_with words files.0 (solving (unwrap_or files.0.chosen.nodes 1000)) (files_spelled words files.0 files.1) refl (λ options. tt))
 
 no_budget : (files : Files) (command : Job) (nodes : Option ℕ) → files.chosen.nodes ≡ nodes → (if is_some nodes then None else Some (job checking files.chosen.layout files.chosen.upper files.model files.proof)) ≡ Some command
     → (files.chosen.nodes ≡ None) × (job checking files.chosen.layout files.chosen.upper files.model files.proof ≡ command)
@@ -204,17 +205,57 @@ check_spelled : (words : List (List ℕ)) (command : Job) → option_and_then ch
 check_spelled words command e =
     let files = then_some check_of (files_of words) command e in
     let told = no_budget files.0 command files.0.chosen.nodes refl files.2 in
-    subst (Spells (codes "check" ∷ words)) told.1 (spelled_with words files.0 checking (files_spelled words files.0 files.1) told.0)
+    subst (Spells (codes "check" ∷ words)) told.1 (spelled_with words files.0 checking (files_spelled words files.0 files.1) told.0 (λ options. tt))
+
+-- and so is a market with its three numbers
+five_same : (one two three four five first second third : List ℕ) → first ≡ one → second ≡ two → third ≡ three
+    → codes "market" ∷ first ∷ second ∷ third ∷ four ∷ five ∷ [] ≡ codes "market" ∷ one ∷ two ∷ three ∷ four ∷ five ∷ []
+five_same one two three four five first second third e f g = rw (e, f, g) refl
+
+module _ (rows columns start model proof : List ℕ) (command : Job) where
+  numbered_spelled : (m n s : Option ℕ) → number_within 1 most_market_rows rows ≡ m → number_within 1 most_market_columns columns ≡ n → number_within 1 most_start start ≡ s
+      → numbered_market model proof m n s ≡ Some command → Spells (codes "market" ∷ rows ∷ columns ∷ start ∷ model ∷ proof ∷ []) command
+  numbered_spelled (Some m) (Some n) (Some s) is_m is_n is_s e =
+      let told = when_true (are_file_names model proof) (Some (market_job model proof m n s)) command e in
+      let a = number_spelled 1 most_market_rows (omega arith) rows m is_m in
+      let b = number_spelled 1 most_market_columns (omega arith) columns n is_n in
+      let c = number_spelled 1 most_start (omega arith) start s is_s in
+      subst (Spells (codes "market" ∷ rows ∷ columns ∷ start ∷ model ∷ proof ∷ [])) (same_Some (market_job model proof m n s) command told.1)
+      (record {
+        options = [];
+        in_range = All-nil IsOption;
+        chosen = none_chosen;
+        once = refl;
+        meant = refl;
+        budget = refl;
+        numbers = (refl, record { some_rows = a.0; few_rows = a.1; some_columns = b.0; few_columns = b.1; first_start = c.0; last_start = c.1 });
+        names = told.0;
+        spelled = five_same (decimal m) (decimal n) (decimal s) model proof rows columns start a.2 b.2 c.2;
+      })
+  numbered_spelled None n s is_m is_n is_s e = absurd cc
+  numbered_spelled (Some m) None s is_m is_n is_s e = absurd cc
+  numbered_spelled (Some m) (Some n) None is_m is_n is_s e = absurd cc
+
+market_spelled : (words : List (List ℕ)) (command : Job) → market_of words ≡ Some command → Spells (codes "market" ∷ words) command
+market_spelled (rows ∷ columns ∷ start ∷ model ∷ proof ∷ []) command e =
+    numbered_spelled rows columns start model proof command (number_within 1 most_market_rows rows) (number_within 1 most_market_columns columns) (number_within 1 most_start start) refl refl refl e
+market_spelled [] command e = absurd cc
+market_spelled (a ∷ []) command e = absurd cc
+market_spelled (a ∷ b ∷ []) command e = absurd cc
+market_spelled (a ∷ b ∷ c ∷ []) command e = absurd cc
+market_spelled (a ∷ b ∷ c ∷ d ∷ []) command e = absurd cc
+market_spelled (a ∷ b ∷ c ∷ d ∷ f ∷ g ∷ words) command e = absurd cc
 
 pub command_spelled : (words : List (List ℕ)) (command : Job) → command_of words ≡ Some command → Spells words command
 command_spelled [] command e = absurd cc
-command_spelled (word ∷ words) command e = by (bytes_eq word (codes "solve")) (bytes_eq word (codes "check")) refl refl e
+command_spelled (word ∷ words) command e = by (bytes_eq word (codes "solve")) (bytes_eq word (codes "check")) (bytes_eq word (codes "market")) refl refl refl e
   where
-    by : (solve check : Bool) → bytes_eq word (codes "solve") ≡ solve → bytes_eq word (codes "check") ≡ check
-        → cond solve (option_map solve_of (files_of words)) (cond check (option_and_then check_of (files_of words)) None) ≡ Some command → Spells (word ∷ words) command
-    by true check is_solve is_check e = subst (λ w. Spells (w ∷ words) command) (sym (text_is word (codes "solve") is_solve)) (solve_spelled words command e)
-    by false true is_solve is_check e = subst (λ w. Spells (w ∷ words) command) (sym (text_is word (codes "check") is_check)) (check_spelled words command e)
-    by false false is_solve is_check e = absurd cc
+    by : (solve check market : Bool) → bytes_eq word (codes "solve") ≡ solve → bytes_eq word (codes "check") ≡ check → bytes_eq word (codes "market") ≡ market
+        → cond solve (option_map solve_of (files_of words)) (cond check (option_and_then check_of (files_of words)) (cond market (market_of words) None)) ≡ Some command → Spells (word ∷ words) command
+    by true check market is_solve is_check is_market e = subst (λ w. Spells (w ∷ words) command) (sym (text_is word (codes "solve") is_solve)) (solve_spelled words command e)
+    by false true market is_solve is_check is_market e = subst (λ w. Spells (w ∷ words) command) (sym (text_is word (codes "check") is_check)) (check_spelled words command e)
+    by false false true is_solve is_check is_market e = subst (λ w. Spells (w ∷ words) command) (sym (text_is word (codes "market") is_market)) (market_spelled words command e)
+    by false false false is_solve is_check is_market e = absurd cc
 
 module _ (files : Files) (options : List SolveOption) (range : All IsOption options) (once : settled none_chosen options ≡ Some files.chosen) (names : are_file_names files.model files.proof ≡ true) where
   abbrev front : List (List ℕ)
@@ -235,6 +276,16 @@ module _ (files : Files) (options : List SolveOption) (range : All IsOption opti
       ∙ ap (option_and_then (named last)) once
       ∙ cond-true (are_file_names files.model files.proof) (Some files) None names
 
+-- the words of a market are read as it
+numbers_read : (rows columns start : ℕ) (model proof : List ℕ) → IsMarket rows columns start → are_file_names model proof ≡ true
+    → market_of (decimal rows ∷ decimal columns ∷ decimal start ∷ model ∷ proof ∷ []) ≡ Some (market_job model proof rows columns start)
+numbers_read rows columns start model proof is names =
+    ap (λ (m : Option ℕ). numbered_market model proof m (number_within 1 most_market_columns (decimal columns)) (number_within 1 most_start (decimal start)))
+    (spelled_number 1 most_market_rows (omega arith) rows is.some_rows is.few_rows)
+    ∙ ap (λ (n : Option ℕ). numbered_market model proof (Some rows) n (number_within 1 most_start (decimal start))) (spelled_number 1 most_market_columns (omega arith) columns is.some_columns is.few_columns)
+    ∙ ap (λ (s : Option ℕ). numbered_market model proof (Some rows) (Some columns) s) (spelled_number 1 most_start (omega arith) start is.first_start is.last_start)
+    ∙ cond-true (are_file_names model proof) (Some (market_job model proof rows columns start)) None names
+
 module _ (command : Job) (options : List SolveOption) (range : All IsOption options) (chosen : Chosen) (once : settled none_chosen options ≡ Some chosen) (meant : command.reading ≡ reading chosen.layout chosen.upper)
     (names : are_file_names command.model command.proof ≡ true) where
   abbrev behind : List (List ℕ)
@@ -248,16 +299,27 @@ module _ (command : Job) (options : List SolveOption) (range : All IsOption opti
       ap (λ (t : Task). job t chosen.layout chosen.upper command.model command.proof) (sym e)
       ∙ ap (λ (r : Reading). record { task = command.task; reading = r; model = command.model; proof = command.proof }) (sym meant)
 
-  read_as : (task : Task) → command.task ≡ task → HasBudget task chosen.nodes → command_of (task_word task ∷ behind) ≡ Some command
-  read_as (solving nodes) e budget =
+  -- a market has no options, and its numbers are read again
+  market_read : (rows columns start : ℕ) → command.task ≡ making rows columns start → options ≡ [] → IsMarket rows columns start
+      → command_of (task_words (making rows columns start) ++ behind) ≡ Some command
+  market_read rows columns start e none is =
+      let plain : chosen ≡ none_chosen = sym (same_Some none_chosen chosen (subst (λ o. settled none_chosen o ≡ Some chosen) none once)) in
+      ap (λ (o : List SolveOption). command_of (task_words (making rows columns start) ++ (flat_map option_words o ++ command.model ∷ command.proof ∷ []))) none
+      ∙ numbers_read rows columns start command.model command.proof is names
+      ∙ ap (λ (c : Chosen). Some (job (making rows columns start) c.layout c.upper command.model command.proof)) (sym plain)
+      ∙ ap Some (whole (making rows columns start) e)
+
+  read_as : (task : Task) → command.task ≡ task → HasBudget task chosen.nodes → HasNumbers task options → command_of (task_words task ++ behind) ≡ Some command
+  read_as (making rows columns start) e budget numbers = market_read rows columns start e numbers.0 numbers.1
+  read_as (solving nodes) e budget numbers =
       ap (option_map solve_of) found
       ∙ ap (λ n. Some (job (solving n) chosen.layout chosen.upper command.model command.proof)) (sym budget) ∙ ap Some (whole (solving nodes) e)
-  read_as checking e none =
+  read_as checking e none numbers =
       ap (option_and_then check_of) found
       ∙ ap (λ (nodes : Option ℕ). if is_some nodes then None else Some (job checking chosen.layout chosen.upper command.model command.proof)) none ∙ ap Some (whole checking e)
 
 pub spelled_command : (words : List (List ℕ)) (command : Job) → Spells words command → command_of words ≡ Some command
-spelled_command words command s = ap command_of s.spelled ∙ read_as command s.options s.in_range s.chosen s.once s.meant s.names command.task refl s.budget
+spelled_command words command s = ap command_of s.spelled ∙ read_as command s.options s.in_range s.chosen s.once s.meant s.names command.task refl s.budget s.numbers
 
 -- ---- the numbers of a command
 
@@ -298,10 +360,11 @@ budget_range : (nodes : Option ℕ) → IfSome nodes (λ count. (1 ≤ count) ×
 budget_range None range = (omega arith, omega arith)
 budget_range (Some count) range = range
 
--- a budget is from 1 to 1000
+-- a budget is from 1 to 1000, and the numbers of a market are within their limits
 abbrev pub IsBudget : Task → Type 0
 IsBudget (solving nodes) = (1 ≤ nodes) × (nodes ≤ most_nodes)
 IsBudget checking = Unit {0}
+IsBudget (making rows columns start) = IsMarket rows columns start
 
 -- the numbers of a command are in their ranges
 pub record IsInRange (command : Job) : Type 0 where
@@ -314,12 +377,26 @@ bounded_command words command e =
     let bounded = bounded_settled none_chosen spelled.chosen spelled.options spelled.in_range (record { upper = tt; nodes = tt }) spelled.once in
     record {
       upper = subst (λ (r : Reading). IfSome r.upper (λ bound. pos 0 ≤ℤ bound)) (sym spelled.meant) bounded.upper;
-      budget = by command.task spelled.chosen.nodes spelled.budget (budget_range spelled.chosen.nodes bounded.nodes);
+      budget = by command.task spelled.options spelled.chosen.nodes spelled.budget spelled.numbers (budget_range spelled.chosen.nodes bounded.nodes);
     }
   where
-    by : (task : Task) (chosen : Option ℕ) → HasBudget task chosen → (1 ≤ unwrap_or chosen 1000) × (unwrap_or chosen 1000 ≤ most_nodes) → IsBudget task
-    by (solving nodes) chosen is range = subst (λ n. (1 ≤ n) × (n ≤ most_nodes)) (sym is) range
-    by checking chosen is range = tt
+    by : (task : Task) (options : List SolveOption) (chosen : Option ℕ) → HasBudget task chosen → HasNumbers task options → (1 ≤ unwrap_or chosen 1000) × (unwrap_or chosen 1000 ≤ most_nodes) → IsBudget task
+    by (making rows columns start) options chosen is numbers range = numbers.1
+    by (solving nodes) options chosen is numbers range = subst (λ n. (1 ≤ n) × (n ≤ most_nodes)) (sym is) range
+    by checking options chosen is numbers range = tt
+
+-- a market is read in free form, without an upper bound
+pub market_reading : (words : List (List ℕ)) (command : Job) → command_of words ≡ Some command → MakesModel command.task → command.reading ≡ reading Free None
+market_reading words command e makes =
+    let spelled = command_spelled words command e in
+    let none : spelled.options ≡ [] = by command.task spelled.options makes spelled.numbers in
+    let plain : none_chosen ≡ spelled.chosen = same_Some none_chosen spelled.chosen (subst (λ o. settled none_chosen o ≡ Some spelled.chosen) none spelled.once) in
+    spelled.meant ∙ ap (λ (c : Chosen). reading c.layout c.upper) (sym plain)
+  where
+    by : (task : Task) (options : List SolveOption) → MakesModel task → HasNumbers task options → options ≡ []
+    by (solving nodes) options makes numbers = absurd makes
+    by checking options makes numbers = absurd makes
+    by (making rows columns start) options makes numbers = numbers.0
 
 -- ---- the names of a command
 

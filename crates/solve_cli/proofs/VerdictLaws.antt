@@ -1,8 +1,10 @@
 -- A text gives one status at most, unless the budget is spent, and which ones it may give.
-use Rattle.std.proofs.Common.{◌≡◌, ◌⊎◌, ⊎_elim, inl, inr, ℕ, ◌≤◌, ◌<◌, List, length, refl, sym, ap, subst, ◌∙◌, arith}
+use Rattle.std.proofs.Common.{◌≡◌, ◌⊎◌, ⊎_elim, inl, inr, ℕ, ◌≤◌, ◌<◌, List, [], length, Some, refl, sym, ap, subst, ◌∙◌, arith}
 use Rattle.std.specs.Prelude.{Result, Ok, Err}
+use Rattle.std.proofs.lemmas.Option.{same_Some}
 use Rattle.whole_rows.specs.WholeRows.{WholeRows, IsWithinLimits}
 use Rattle.int_model.specs.declared.part.Part.{Part}
+use Rattle.int_model.specs.declared.model.Column.{Column}
 use Rattle.int_model.specs.declared.model.Model.{Model}
 use Rattle.int_model.specs.Large.{IsFirstLarge, HasNoLargePart}
 use Rattle.int_model.specs.FirstLargeLaws.{first_large_is_one}
@@ -15,9 +17,9 @@ use Rattle.solve_cli.specs.declared.status.Input.TheVariants.{ModelText, ProofTe
 use Rattle.solve_cli.specs.declared.status.Status.{Status}
 use Rattle.solve_cli.specs.declared.status.Status.TheVariants.{Optimal, Infeasible, Accepted, Spent, Text, TooLong, Large, Rejected}
 use Rattle.mps_fields.specs.Lines.{most_bytes}
-use Rattle.solve_cli.specs.Words.{Reading, solving, checking, Job}
+use Rattle.solve_cli.specs.Words.{Reading, Task, solving, checking, making, budget_of, Job}
 use Rattle.solve_cli.specs.Limits.{most_proof_bytes}
-use Rattle.solve_cli.specs.Outputs.{Output}
+use Rattle.solve_cli.specs.Outputs.{Output, with_proof}
 use Rattle.solve_cli.specs.Verdict.{rows_of, enough_nodes, Solves, Checks, Comes, IsStated, IsRefused, IsTooLong, Verdict}
 use Rattle.solve_cli.specs.Answer.{IsDecided, IsChecked, StatesSmall, SameUnlessSpent, Gives}
 
@@ -31,12 +33,12 @@ module _ (nodes : ℕ) (model : Model) where
   abbrev IsLarge : Status → Type 0
   IsLarge status = (part : Part) × (status ≡ Large part) × IsFirstLarge model part
 
-  solved : (status : Status) (out : Output) → Solves nodes model status out → IsTried status ⊎ IsLarge status
-  solved Optimal out s = inl (s.small, inl (inl (refl, (s.point, s.best.point))))
-  solved Infeasible out s = inl (s.small, inl (inr (refl, s.none)))
-  solved Spent out s = inl (s.small, inr refl)
-  solved (Large part) out s = inr (part, refl, s.first)
-  solved status out s = absurd s
+  solved : (columns : List Column) (status : Status) (out : Output) → Solves columns nodes model status out → IsTried status ⊎ IsLarge status
+  solved columns Optimal out s = inl (s.small, inl (inl (refl, (s.point, s.best.point))))
+  solved columns Infeasible out s = inl (s.small, inl (inr (refl, s.none)))
+  solved columns Spent out s = inl (s.small, inr refl)
+  solved columns (Large part) out s = inr (part, refl, s.first)
+  solved columns status out s = absurd s
 
   one_decision : (one other : Status) → IsDecided model one → IsDecided model other → one ≡ other
   one_decision one other a b =
@@ -47,23 +49,36 @@ module _ (nodes : ℕ) (model : Model) where
   one_try one other a b =
       ⊎_elim (λ first. ⊎_elim (λ second. inl (one_decision one other first second)) (λ spent. inr (inr spent)) b.1) (λ spent. inr (inl spent)) a.1
 
-  one_solve : (one other : Status) (out more : Output) → Solves nodes model one out → Solves nodes model other more → SameUnlessSpent one other
-  one_solve one other out more a b =
+  one_solve : (one other : Status) → IsTried one ⊎ IsLarge one → IsTried other ⊎ IsLarge other → SameUnlessSpent one other
+  one_solve one other a b =
       ⊎_elim
-      (λ first. ⊎_elim (λ second. one_try one other first second) (λ large. absurd (first.0 large.0 large.2.large)) (solved other more b))
+      (λ first. ⊎_elim (λ second. one_try one other first second) (λ large. absurd (first.0 large.0 large.2.large)) b)
       (λ large. ⊎_elim (λ second. absurd (second.0 large.0 large.2.large))
-      (λ same. inl (large.1 ∙ ap Large (first_large_is_one model large.0 same.0 large.2 same.2) ∙ sym same.1)) (solved other more b))
-      (solved one out a)
+      (λ same. inl (large.1 ∙ ap Large (first_large_is_one model large.0 same.0 large.2 same.2) ∙ sym same.1)) b)
+      a
 
   -- a model without a large part is decided, or the budget is spent
-  ends_model : (status : Status) (out : Output) → HasNoLargePart model → Solves nodes model status out → IsDecided model status ⊎ (status ≡ Spent)
-  ends_model status out small s = ⊎_elim (λ tried. tried.1) (λ large. absurd (small large.0 large.2.large)) (solved status out s)
+  ends_model : (status : Status) → HasNoLargePart model → IsTried status ⊎ IsLarge status → IsDecided model status ⊎ (status ≡ Spent)
+  ends_model status small s = ⊎_elim (λ tried. tried.1) (λ large. absurd (small large.0 large.2.large)) s
 
 -- with enough nodes the budget is not spent
-not_spent : (nodes : ℕ) (model : Model) (status : Status) (out : Output) → enough_nodes model ≤ nodes → Solves nodes model status out → status ≡ Spent → ⊥
-not_spent nodes model status out enough s spent =
-    let found : Solves nodes model Spent out = subst (λ one. Solves nodes model one out) spent s in
+not_spent : (columns : List Column) (nodes : ℕ) (model : Model) (status : Status) (out : Output) → enough_nodes model ≤ nodes → Solves columns nodes model status out → status ≡ Spent → ⊥
+not_spent columns nodes model status out enough s spent =
+    let found : Solves columns nodes model Spent out = subst (λ one. Solves columns nodes model one out) spent s in
     absurd (omega (arith, enough, found.few))
+
+-- a task with a budget solves the model with it
+record IsSolved (nodes : ℕ) (model : Model) (status : Status) : Type 0 where
+  columns : List Column
+  out : Output
+  solves : Solves columns nodes model status out
+
+is_solved : (task : Task) (nodes : ℕ) (proof : List ℕ) (model : Model) (status : Status) (out : Output) → budget_of task ≡ Some nodes → Comes task proof model status out → IsSolved nodes model status
+is_solved (solving count) nodes proof model status out is comes =
+    subst (λ n. IsSolved n model status) (same_Some count nodes is) (record { columns = model.columns; out = out; solves = comes })
+is_solved checking nodes proof model status out is comes = absurd cc
+is_solved (making rows columns start) nodes proof model status out is comes =
+    subst (λ n. IsSolved n model status) (same_Some 1000 nodes is) (record { columns = []; out = with_proof comes.lines out.proof; solves = comes.solved })
 
 -- a proof within its limit is accepted or refused at a line, where the model has no large part
 checked_small : (proof : List ℕ) (model : Model) (status : Status) (out : Output) → HasNoLargePart model → length proof ≤ most_proof_bytes → Checks proof model status out → IsChecked model proof status
@@ -122,13 +137,13 @@ module _ (proof : List ℕ) (model : Model) where
 
 -- ---- texts
 
-same_model : (found : Result Model TextFault) (one other : Model) → found ≡ Ok one → found ≡ Ok other → one ≡ other
+pub same_model : (found : Result Model TextFault) (one other : Model) → found ≡ Ok one → found ≡ Ok other → one ≡ other
 same_model found one other a b = cc
 
 same_fault : (found : Result Model TextFault) (one other : TextFault) → found ≡ Err one → found ≡ Err other → one ≡ other
 same_fault found one other a b = cc
 
-never : {P : Type 0} (found : Result Model TextFault) (model : Model) (fault : TextFault) → found ≡ Ok model → found ≡ Err fault → P
+pub never : {P : Type 0} (found : Result Model TextFault) (model : Model) (fault : TextFault) → found ≡ Ok model → found ≡ Err fault → P
 never found model fault a b = absurd cc
 
 module _ (reading : Reading) (text : List ℕ) (Follows : Model → Status → Output → Type 0) where
@@ -180,21 +195,26 @@ module _ (reading : Reading) (text : List ℕ) (Follows : Model → Status → O
 -- ---- commands
 
 -- the same under a command that solves
-module _ (command : Job) (nodes : ℕ) (solves : command.task ≡ solving nodes) (text proof : List ℕ) where
-  solve_verdict : (status : Status) → (gives : Gives command text proof status) → Verdict command.reading (Solves nodes) text status gives.0
-  solve_verdict status gives = subst (λ task. Verdict command.reading (Comes task proof) text status gives.0) solves gives.1
+module _ (command : Job) (nodes : ℕ) (solves : budget_of command.task ≡ Some nodes) (text proof : List ℕ) where
+  comes_solved : (model : Model) (status : Status) (out : Output) → Comes command.task proof model status out → IsTried nodes model status ⊎ IsLarge nodes model status
+  comes_solved model status out comes = let is = is_solved command.task nodes proof model status out solves comes in solved nodes model is.columns status is.out is.solves
 
   pub one_given : (one other : Status) → Gives command text proof one → Gives command text proof other → SameUnlessSpent one other
   one_given one other a b =
-      one_text command.reading text (Solves nodes) SameUnlessSpent (λ one other same. inl same) (one_solve nodes) one other a.0 b.0 (solve_verdict one a) (solve_verdict other b)
+      one_text command.reading text (Comes command.task proof) SameUnlessSpent (λ one other same. inl same)
+      (λ model one other out more x y. one_solve nodes model one other (comes_solved model one out x) (comes_solved model other more y)) one other a.0 b.0 a.1 b.1
+
+  here : (model : Model) (status : Status) → StatesSmall command.reading text model → (gives : Gives command text proof status) → Comes command.task proof model status gives.0
+  here model status small gives = model_of command.reading text (Comes command.task proof) model status gives.0 small gives.1
 
   pub ends : (model : Model) (status : Status) → StatesSmall command.reading text model → Gives command text proof status → IsDecided model status ⊎ (status ≡ Spent)
-  ends model status small gives = ends_model nodes model status gives.0 small.small (model_of command.reading text (Solves nodes) model status gives.0 small (solve_verdict status gives))
+  ends model status small gives = ends_model nodes model status small.small (comes_solved model status gives.0 (here model status small gives))
 
   pub decides : (model : Model) (status : Status) → StatesSmall command.reading text model → enough_nodes model ≤ nodes → Gives command text proof status → IsDecided model status
   decides model status small enough gives =
+      let is = is_solved command.task nodes proof model status gives.0 solves (here model status small gives) in
       ⊎_elim (λ decided. decided)
-      (λ spent. absurd (not_spent nodes model status gives.0 enough (model_of command.reading text (Solves nodes) model status gives.0 small (solve_verdict status gives)) spent))
+      (λ spent. absurd (not_spent is.columns nodes model status is.out enough is.solves spent))
       (ends model status small gives)
 
 -- and under one that checks

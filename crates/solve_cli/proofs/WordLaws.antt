@@ -7,7 +7,7 @@ use Rattle.std.proofs.lemmas.Option.{same_Some}
 use Rattle.solve_cli.specs.declared.words.SolveOption.{SolveOption}
 use Rattle.solve_cli.specs.declared.words.SolveOption.TheVariants.{Fixed, Upper, Nodes}
 use Rattle.solve_cli.specs.declared.words.Chosen.{Chosen}
-use Rattle.solve_cli.specs.Words.{number_within, most_upper, most_nodes, valued_option_of, first_option_of, words_in, options_of, with_option, settled, none_chosen, settled_options, are_file_names, named, files_of}
+use Rattle.solve_cli.specs.Words.{number_within, most_upper, most_nodes, valued_option_of, first_option_of, words_in, options_of, with_option, settled, none_chosen, settled_options, are_file_names, named, files_of, most_market_rows, most_market_columns, most_start, market_job, numbered_market, market_of}
 
 -- an option in front of what words spell behind it
 abbrev before : SolveOption → List (List ℕ) → Option (List SolveOption)
@@ -169,3 +169,47 @@ module _ {X : Type 0} (text : X → List ℕ) (words front names : List X) (k : 
       → files_of (map text words) ≡ Some (record { chosen = chosen; model = model_name; proof = proof_name })
   is_files chosen model_name proof_name files settles same_model same_proof =
       files_are ∙ ap (option_and_then (named (text model ∷ text proof ∷ []))) (sym settles) ∙ rw (files, same_model, same_proof) refl
+
+-- ---- three numbers and two names
+
+five_items : {X : Type 0} (words : List X) (a b c d e : X) → length words ≡ 5 → a ≡ get_or words 0 a → b ≡ get_or words 1 b → c ≡ get_or words 2 c → d ≡ get_or words 3 d → e ≡ get_or words 4 e
+    → words ≡ a ∷ b ∷ c ∷ d ∷ e ∷ []
+five_items [] a b c d e five f g h i j = absurd (omega arith)
+five_items (x ∷ []) a b c d e five f g h i j = absurd (omega arith)
+five_items (x ∷ y ∷ []) a b c d e five f g h i j = absurd (omega arith)
+five_items (x ∷ y ∷ z ∷ []) a b c d e five f g h i j = absurd (omega arith)
+five_items (x ∷ y ∷ z ∷ u ∷ []) a b c d e five f g h i j = absurd (omega arith)
+five_items (x ∷ y ∷ z ∷ u ∷ v ∷ []) a b c d e five f g h i j = rw (f, g, h, i, j) refl
+five_items (x ∷ y ∷ z ∷ u ∷ v ∷ w ∷ words) a b c d e five f g h i j = absurd (omega arith)
+
+-- fewer or more words are no market
+pub not_five : {X : Type 0} (text : X → List ℕ) (words : List X) → (length words ≡ 5 → ⊥) → market_of (map text words) ≡ None
+not_five text [] other = refl
+not_five text (x ∷ []) other = refl
+not_five text (x ∷ y ∷ []) other = refl
+not_five text (x ∷ y ∷ z ∷ []) other = refl
+not_five text (x ∷ y ∷ z ∷ u ∷ []) other = refl
+not_five text (x ∷ y ∷ z ∷ u ∷ v ∷ []) other = absurd (other (omega arith))
+not_five text (x ∷ y ∷ z ∷ u ∷ v ∷ w ∷ words) other = refl
+
+module _ {X : Type 0} (text : X → List ℕ) (words : List X) (rows columns start model proof : X) (five : length words ≡ 5)
+    (is_rows : rows ≡ get_or words 0 rows) (is_columns : columns ≡ get_or words 1 columns) (is_start : start ≡ get_or words 2 start)
+    (is_model : model ≡ get_or words 3 model) (is_proof : proof ≡ get_or words 4 proof) where
+  -- five words are a market where the first three are its numbers and the last two its names
+  pub market_is : (m n s : Option ℕ) → m ≡ number_within 1 most_market_rows (text rows) → n ≡ number_within 1 most_market_columns (text columns) → s ≡ number_within 1 most_start (text start)
+      → market_of (map text words) ≡ numbered_market (text model) (text proof) m n s
+  market_is m n s is_m is_n is_s =
+      ap (λ items. market_of (map text items)) (five_items words rows columns start model proof five is_rows is_columns is_start is_model is_proof)
+      ∙ rw (is_m, is_n, is_s) refl
+
+  module _ (m n s : ℕ) (is_m : Some m ≡ number_within 1 most_market_rows (text rows)) (is_n : Some n ≡ number_within 1 most_market_columns (text columns))
+      (is_s : Some s ≡ number_within 1 most_start (text start)) where
+    -- the last two are no two names of files
+    pub not_market : are_file_names (text model) (text proof) ≡ false → market_of (map text words) ≡ None
+    not_market other = market_is (Some m) (Some n) (Some s) is_m is_n is_s ∙ ap (λ b. cond b (Some (market_job (text model) (text proof) m n s)) None) other
+
+    pub is_market : (model_name proof_name : List ℕ) → are_file_names (text model) (text proof) ≡ true → model_name ≡ text model → proof_name ≡ text proof
+        → market_of (map text words) ≡ Some (market_job model_name proof_name m n s)
+    is_market model_name proof_name files same_model same_proof =
+        market_is (Some m) (Some n) (Some s) is_m is_n is_s ∙ ap (λ b. cond b (Some (market_job (text model) (text proof) m n s)) None) files
+        ∙ rw (same_model, same_proof) refl

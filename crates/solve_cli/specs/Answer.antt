@@ -13,8 +13,9 @@ use Rattle.solve_cli.specs.declared.status.Input.TheVariants.{ModelText, ProofTe
 use Rattle.solve_cli.specs.declared.status.Status.{Status}
 use Rattle.solve_cli.specs.declared.status.Status.TheVariants.{Optimal, Infeasible, Accepted, Spent, Words, Text, TooLong, Large, ReadFault, WriteFault, NoMemory, Rejected}
 use Rattle.mps_fields.specs.Lines.{most_bytes}
-use Rattle.solve_cli.specs.Words.{Reading, solving, checking, Job, command_of}
+use Rattle.solve_cli.specs.Words.{Reading, Task, solving, checking, making, budget_of, ReadsModel, MakesModel, Job, command_of}
 use Rattle.solve_cli.specs.Limits.{most_proof_bytes, untaken}
+use Rattle.solve_cli.specs.MarketTexts.{market_text, made_text, StatesMarket}
 use Rattle.solve_cli.specs.Report.{report_of}
 use Rattle.solve_cli.specs.Outputs.{Output, only}
 use Rattle.solve_cli.specs.Verdict.{rows_of, States, enough_nodes, Comes, Verdict}
@@ -39,20 +40,32 @@ pub record Faults : Type 0 where
 abbrev pub desk_faults : ℕ → Option Fault → Faults
 desk_faults count last = record { count = count; last = last }
 
--- the inputs of a command: MODEL, and PROOF where it is checked
+-- the inputs of a command: MODEL, unless it is made, and PROOF where it is checked
 abbrev pub IsInput : Job → List ℕ → Type 0
-IsInput command name = (name ≡ command.model) ⊎ ((command.task ≡ checking) × (name ≡ command.proof))
+IsInput command name = (ReadsModel command.task × (name ≡ command.model)) ⊎ ((command.task ≡ checking) × (name ≡ command.proof))
+
+-- the outputs of a command: PROOF, and MODEL where it is made
+abbrev pub IsOutput : Job → List ℕ → Type 0
+IsOutput command name = (name ≡ command.proof) ⊎ (MakesModel command.task × (name ≡ command.model))
+
+-- the text that is judged: what was left of MODEL, as far as the desk tells it, or the text of the market that is made
+abbrev pub IsJudgedText : Task → Option (List ℕ) → List ℕ → Type 0
+IsJudgedText (solving nodes) left text = IfSome left (λ bytes. bytes ≡ text)
+IsJudgedText checking left text = IfSome left (λ bytes. bytes ≡ text)
+IsJudgedText (making rows columns start) left text = StatesMarket rows columns start text
 
 -- The words are a command, and this is what it comes to on the bytes that were left of MODEL and of PROOF: on those that the desk
--- tells, or where it tells none on some bytes. Solving reads none of PROOF.
+-- tells, or where it tells none on some bytes. Solving reads none of PROOF. A market that is made is judged by its own text, all of
+-- which is put into MODEL.
 pub record Judges (given : Given) (status : Status) (out : Output) : Type 0 where
   pub command : Job
   pub spelled : command_of given.words ≡ Some command
   pub text : List ℕ
-  pub told : IfSome (given.left command.model) (λ left. left ≡ text)
+  pub told : IsJudgedText command.task (given.left command.model) text
   pub proof : List ℕ
   pub proof_told : IfSome (given.left command.proof) (λ left. left ≡ proof)
   pub verdict : Verdict command.reading (Comes command.task proof) text status out
+  pub made : out.made ≡ made_text command.task
 
 -- the desk failed in a take of an input
 pub record FailsToRead (given : Given) (faults : Faults) (out : Output) : Type 0 where
@@ -64,18 +77,25 @@ pub record FailsToRead (given : Given) (faults : Faults) (out : Output) : Type 0
   pub last : faults.last ≡ Some (fault Take name)
   pub report : out ≡ only (codes "READFAULT" ∷ [])
 
--- first bytes of a proof that was to be put, which may be all of them
-pub record IsStarted (given : Given) (proof : List ℕ) : Type 0 where
+-- no proof was put yet, and of the market that is made some first bytes, which may be all of them
+pub record IsBegun (given : Given) (made proof : List ℕ) : Type 0 where
+  pub count : ℕ
+  pub first : (command : Job) → command_of given.words ≡ Some command → made ≡ take count (made_text command.task)
+  pub none : proof ≡ []
+
+-- first bytes of a proof that was to be put, which may be all of them; a market that is made was put whole
+pub record IsStarted (given : Given) (made proof : List ℕ) : Type 0 where
   pub status : Status
   pub whole : Output
   pub judged : Judges given status whole
+  pub before : made ≡ whole.made
   pub count : ℕ
   pub bytes : proof ≡ take count whole.proof
 
 -- memory ran out before a proof was put, or while one was put
 pub record LacksMemory (given : Given) (out : Output) : Type 0 where
   pub report : out.lines ≡ codes "NOMEMORY" ∷ []
-  pub proof : (out.proof ≡ []) ⊎ IsStarted given out.proof
+  pub put : IsBegun given out.made out.proof ⊎ IsStarted given out.made out.proof
 
 -- why a status may be answered, and what is to be written then
 abbrev pub Reason : Given → Faults → Status → Output → Type 0
@@ -85,17 +105,18 @@ Reason given faults WriteFault out = ⊥
 Reason given faults NoMemory out = LacksMemory given out
 Reason given faults status out = Judges given status out
 
--- these bytes were put into PROOF, and nothing was put into another output
-pub record Puts (given : Given) (bytes : List ℕ) (written : List ℕ → Option (List ℕ)) : Type 0 where
+-- these bytes were put into MODEL where it is made, these into PROOF, and nothing was put into another output
+pub record Puts (given : Given) (made bytes : List ℕ) (written : List ℕ → Option (List ℕ)) : Type 0 where
   pub no_command : command_of given.words ≡ None → Same given.written written
-  pub others : (command : Job) → command_of given.words ≡ Some command → SameButAt command.proof given.written written
+  pub others : (command : Job) → command_of given.words ≡ Some command → (name : List ℕ) → (IsOutput command name → ⊥) → written name ≡ given.written name
+  pub model : (command : Job) → command_of given.words ≡ Some command → MakesModel command.task → written command.model ≡ option_map (appended made) (given.written command.model)
   pub proof : (command : Job) → command_of given.words ≡ Some command → written command.proof ≡ option_map (appended bytes) (given.written command.proof)
 
 -- the status has a reason, its proof was put, and then its lines were said
 pub record SaysAll (given : Given) (faults : Faults) (written : List ℕ → Option (List ℕ)) (status : Status) (before after : Option (List ℕ)) : Type 0 where
   pub out : Output
   pub reason : Reason given faults status out
-  pub put : Puts given out.proof written
+  pub put : Puts given out.made out.proof written
   pub said : after ≡ option_map (appended (report_of out.lines)) before
 
 -- some status had a reason, its proof was put, and some first bytes of its lines were said
@@ -103,7 +124,7 @@ pub record SaysSome (given : Given) (faults : Faults) (written : List ℕ → Op
   pub status : Status
   pub out : Output
   pub reason : Reason given faults status out
-  pub put : Puts given out.proof written
+  pub put : Puts given out.made out.proof written
   pub said : AppendsSome (report_of out.lines) before after
 
 -- the desk failed in a say, and some first bytes of what there was a reason to say before were said
@@ -114,22 +135,48 @@ pub record FailsToSay (given : Given) (faults : Faults) (written : List ℕ → 
   pub rose : Rose earlier.count faults.count
   pub last : faults.last ≡ Some (fault Say [])
 
--- a model was solved, the desk failed in a put into PROOF, some first bytes of the proof were put, and nothing was said
+-- a model was solved, the desk failed in a put into PROOF, and some first bytes of the proof were put
 pub record FailsToPut (given : Given) (faults : Faults) (written : List ℕ → Option (List ℕ)) : Type 0 where
   pub command : Job
   pub spelled : command_of given.words ≡ Some command
-  pub solves : (nodes : ℕ) × (command.task ≡ solving nodes)
+  pub solves : (nodes : ℕ) × (budget_of command.task ≡ Some nodes)
+  pub made : List ℕ
   pub bytes : List ℕ
-  pub started : IsStarted given bytes
-  pub put : Puts given bytes written
+  pub started : IsStarted given made bytes
+  pub put : Puts given made bytes written
   pub rose : Rose given.faults faults.count
   pub last : faults.last ≡ Some (fault Put command.proof)
 
--- what a run answers
+-- a market was made, the desk failed in a put into MODEL, some first bytes of the market were put there, and nothing into PROOF
+pub record FailsToMake (given : Given) (faults : Faults) (written : List ℕ → Option (List ℕ)) : Type 0 where
+  pub command : Job
+  pub spelled : command_of given.words ≡ Some command
+  pub makes : MakesModel command.task
+  pub made : List ℕ
+  pub begun : IsBegun given made []
+  pub put : Puts given made [] written
+  pub rose : Rose given.faults faults.count
+  pub last : faults.last ≡ Some (fault Put command.model)
+
+-- what a run answers; where a put failed, nothing was said
 abbrev pub Answer : Given → Faults → (List ℕ → Option (List ℕ)) → Option (List ℕ) → Option (List ℕ) → Status → Type 0
-Answer given faults written before after WriteFault = FailsToSay given faults written before after ⊎ (FailsToPut given faults written × (after ≡ before))
+Answer given faults written before after WriteFault = FailsToSay given faults written before after ⊎ ((FailsToPut given faults written ⊎ FailsToMake given faults written) × (after ≡ before))
 Answer given faults written before after NoMemory = SaysSome given faults written before after
 Answer given faults written before after status = SaysAll given faults written status before after
+
+-- what a market gives: its text has no fault and is not too long, and nothing is read
+abbrev pub IsOfMarket : Status → Type 0
+IsOfMarket Optimal = Unit {0}
+IsOfMarket Infeasible = Unit {0}
+IsOfMarket Spent = Unit {0}
+IsOfMarket (Large part) = Unit {0}
+IsOfMarket WriteFault = Unit {0}
+IsOfMarket NoMemory = Unit {0}
+IsOfMarket status = ⊥
+
+-- the status of a command that makes a market is one of these
+abbrev pub AnswersMarket : Given → Status → Type 0
+AnswersMarket given status = (command : Job) → command_of given.words ≡ Some command → MakesModel command.task → IsOfMarket status
 
 -- neither a fault nor want of memory is what the status tells
 abbrev pub IsCalm : Status → Type 0
@@ -167,11 +214,11 @@ pub record FailedInWrite (before now : Faults) : Type 0 where
   pub last : (now.last ≡ Some (fault Say [])) ⊎ ((name : List ℕ) × (now.last ≡ Some (fault Put name)))
 
 -- Which inputs were taken: none without a command, and else at most the command's. MODEL was taken to its end, or to one byte past
--- the limit, where its text was judged, and PROOF where its text was judged. PROOF was not taken where MODEL decided alone.
+-- the limit, where its text was read and judged, and PROOF where its text was judged. PROOF was not taken where MODEL decided alone.
 pub record TakesInput (given : Given) (left : List ℕ → Option (List ℕ)) (status : Status) : Type 0 where
   pub no_command : command_of given.words ≡ None → Same given.left left
   pub others : (command : Job) → command_of given.words ≡ Some command → (name : List ℕ) → (IsInput command name → ⊥) → left name ≡ given.left name
-  pub model : (command : Job) → command_of given.words ≡ Some command → IsJudged status → left command.model ≡ option_map (untaken most_bytes) (given.left command.model)
+  pub model : (command : Job) → command_of given.words ≡ Some command → ReadsModel command.task → IsJudged status → left command.model ≡ option_map (untaken most_bytes) (given.left command.model)
   pub proof : (command : Job) → command_of given.words ≡ Some command → IsOfProof status → left command.proof ≡ option_map (untaken most_proof_bytes) (given.left command.proof)
   pub untouched : (command : Job) → command_of given.words ≡ Some command → IsOfModel status → left command.proof ≡ given.left command.proof
 
@@ -198,10 +245,16 @@ pub record StatesSmall (reading : Reading) (text : List ℕ) (model : Model) : T
   pub states : States reading text model
   pub small : HasNoLargePart model
 
--- the desk tells these bytes of MODEL, and where a proof is checked these of PROOF
+-- the text is what the desk tells of MODEL, or that of the market that is made
+abbrev pub IsToldText : Task → Option (List ℕ) → List ℕ → Type 0
+IsToldText (solving nodes) left text = left ≡ Some text
+IsToldText checking left text = left ≡ Some text
+IsToldText (making rows columns start) left text = text ≡ market_text rows columns start
+
+-- the desk tells these bytes of MODEL, unless they are made, and where a proof is checked these of PROOF
 pub record Tells (given : Given) (command : Job) (text proof : List ℕ) : Type 0 where
   pub spelled : command_of given.words ≡ Some command
-  pub in_model : given.left command.model ≡ Some text
+  pub in_model : IsToldText command.task (given.left command.model) text
   pub in_proof : command.task ≡ checking → given.left command.proof ≡ Some proof
 
 -- Where no fault rises, words without a command give Words, and a command whose inputs are told gives what their bytes give. So a
@@ -210,9 +263,9 @@ pub record Tells (given : Given) (command : Job) (text proof : List ℕ) : Type 
 pub record IsComplete (given : Given) (faults : Faults) (status : Status) : Type 0 where
   pub no_command : command_of given.words ≡ None → (Rose given.faults faults.count → ⊥) → (status ≡ Words) ⊎ (status ≡ NoMemory)
   pub text : (command : Job) (text proof : List ℕ) → Tells given command text proof → (Rose given.faults faults.count → ⊥) → Gives command text proof status ⊎ (status ≡ NoMemory)
-  pub ends : (command : Job) (nodes : ℕ) (text proof : List ℕ) (model : Model) → command.task ≡ solving nodes → Tells given command text proof → StatesSmall command.reading text model
+  pub ends : (command : Job) (nodes : ℕ) (text proof : List ℕ) (model : Model) → budget_of command.task ≡ Some nodes → Tells given command text proof → StatesSmall command.reading text model
       → (Rose given.faults faults.count → ⊥) → IsDecided model status ⊎ ((status ≡ Spent) ⊎ (status ≡ NoMemory))
-  pub enough : (command : Job) (nodes : ℕ) (text proof : List ℕ) (model : Model) → command.task ≡ solving nodes → Tells given command text proof → StatesSmall command.reading text model
+  pub enough : (command : Job) (nodes : ℕ) (text proof : List ℕ) (model : Model) → budget_of command.task ≡ Some nodes → Tells given command text proof → StatesSmall command.reading text model
       → enough_nodes model ≤ nodes → (Rose given.faults faults.count → ⊥) → IsDecided model status ⊎ (status ≡ NoMemory)
   pub checks : (command : Job) (text proof : List ℕ) (model : Model) → command.task ≡ checking → Tells given command text proof → StatesSmall command.reading text model
       → length proof ≤ most_proof_bytes → (Rose given.faults faults.count → ⊥) → IsChecked model proof status ⊎ (status ≡ NoMemory)

@@ -5,11 +5,12 @@ use Rattle.solve_cli.specs.declared.words.Command.TheVariants as commands
 use Rattle.solve_cli.specs.declared.words.Files.{Files}
 use Rattle.solve_cli.specs.declared.words.WordsStop.{WordsStop}
 use Rattle.solve_cli.specs.declared.words.WordsStop.TheVariants as stops
-use Rattle.solve_cli.specs.Words.{Job, job, solving, checking}
+use Rattle.solve_cli.specs.Words.{Job, job, market_job, solving, checking}
 
 abbrev pub job_view : Command → Job
 job_view (commands.Solve layout upper nodes model proof) = job (solving nodes) layout upper model proof
 job_view (commands.Check layout upper model proof) = job checking layout upper model proof
+job_view (commands.Market m n start model proof) = market_job model proof m n start
 
 -- the command that is there, or Words where there is none, unless memory ran out
 abbrev pub GivesCommand : Result Command WordsStop → Option Job → Type 0

@@ -5,6 +5,7 @@ pub mod Codes
 pub mod Taking
 pub mod Report
 pub mod Limits
+pub mod MarketTexts
 pub mod Verdict
 pub mod Answer
 pub mod Headline

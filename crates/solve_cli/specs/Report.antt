@@ -48,6 +48,10 @@ bare_lines head nodes plain = head ∷ count_lines nodes plain
 abbrev pub found_lines : List ℕ → ℚ → List Column → List ℤ → ℕ → ℕ → List (List ℕ)
 found_lines head value columns point nodes plain = head ∷ (best_lines value columns point ++ count_lines nodes plain)
 
+-- the first line of the summary of a market: its numbers of rows and columns, and the start of its stream
+abbrev pub market_line : ℕ → ℕ → ℕ → List ℕ
+market_line rows columns start = codes "MARKET " ++ (decimal rows ++ 32 ∷ (decimal columns ++ 32 ∷ decimal start))
+
 -- the name of column number j
 abbrev pub column_name : Model → ℕ → List ℕ
 column_name model j = option_map_or (λ (column : Column). column.name) (slice_get model.columns j) []

@@ -16,8 +16,8 @@ use Rattle.solve_cli.specs.declared.stated.Stated.TheVariants as stated
 use Rattle.solve_cli.specs.Words.{Reading}
 use Rattle.solve_cli.specs.Verdict.{rows_of, States, IsUnfit, Verdict}
 use Rattle.solve_cli.specs.Report.{report_of}
-use Rattle.solve_cli.specs.Outputs.{Output, only, text_of}
-use Rattle.solve_cli.specs.Answer.{Given, Faults, Reason, IsStarted, Puts, FailsToPut, IsCalm, IsJudged, KeepsFaults}
+use Rattle.solve_cli.specs.Outputs.{Output, only, with_proof, text_of}
+use Rattle.solve_cli.specs.Answer.{Given, Faults, Reason, IsBegun, IsStarted, Puts, FailsToPut, FailsToMake, IsCalm, IsJudged, KeepsFaults}
 use Rattle.desk_io.specs.declared.desk.DeskStop.{DeskStop}
 use Rattle.desk_io.specs.declared.desk.DeskStop.TheVariants as stops
 
@@ -30,7 +30,7 @@ pub record HasRows (model : Model) : Type 0 where
 
 -- what the reply would write
 abbrev pub output_of : Reply → List (List ℕ) → Output
-output_of reply lines = record { lines = lines; proof = text_of reply.proof }
+output_of reply lines = with_proof lines (text_of reply.proof)
 
 -- the reply's report is that of some lines, and this holds of them and of its proof
 abbrev pub Replies : (Status → Output → Type 0) → Reply → Type 0
@@ -44,12 +44,20 @@ pub record IsSaid (report : List ℕ) (status : Status) (old new : Faults) (befo
       ⊎ (((result ≡ WriteFault) × AppendsSome report before after × Rose old.count new.count × (new.last ≡ Some (fault Say [])))
       ⊎ ((result ≡ NoMemory) × AppendsSome report before after × (new ≡ old)))
 
--- The reply has a reason, and its proof was put. Where memory ran out, or the desk failed in a put into PROOF, some first bytes of
--- a proof were put at most.
+-- the reply has a reason, its proof was put, and before it the market that is made
+pub record HasReason (given : Given) (faults : Faults) (written : List ℕ → Option (List ℕ)) (reply : Reply) : Type 0 where
+  pub lines : List (List ℕ)
+  pub report : reply.report.items ≡ report_of lines
+  pub made : List ℕ
+  pub reason : Reason given faults reply.status (record { lines = lines; made = made; proof = text_of reply.proof })
+  pub put : Puts given made (text_of reply.proof) written
+
+-- The reply has a reason, and what goes with it was put. Where memory ran out, or the desk failed in a put, some first bytes of a
+-- market and of a proof were put at most.
 abbrev pub IsReplied : Given → Faults → (List ℕ → Option (List ℕ)) → Result Reply DeskStop → Type 0
-IsReplied given faults written (Ok reply) = Replies (Reason given faults) reply × Puts given (text_of reply.proof) written
-IsReplied given faults written (Err stops.NoMemory) = (bytes : List ℕ) × ((bytes ≡ []) ⊎ IsStarted given bytes) × Puts given bytes written
-IsReplied given faults written (Err stops.Failed) = FailsToPut given faults written
+IsReplied given faults written (Ok reply) = HasReason given faults written reply
+IsReplied given faults written (Err stops.NoMemory) = (made : List ℕ) × (bytes : List ℕ) × (IsBegun given made bytes ⊎ IsStarted given made bytes) × Puts given made bytes written
+IsReplied given faults written (Err stops.Failed) = FailsToPut given faults written ⊎ FailsToMake given faults written
 
 -- where the status tells no fault, the desk's faults are as they were
 abbrev pub StaysCalm : Faults → Faults → Reply → Type 0

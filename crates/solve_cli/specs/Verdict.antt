@@ -14,6 +14,7 @@ use Rattle.tree_checker.specs.declared.verdict.Reject.{Reject}
 use Rattle.tree_checker.specs.Accepts.{Accepts}
 use Rattle.tree_checker.specs.Rejects.{RejectsAt}
 use Rattle.int_model.specs.declared.part.Part.{Part}
+use Rattle.int_model.specs.declared.model.Column.{Column}
 use Rattle.int_model.specs.declared.model.Model.{Model}
 use Rattle.int_model.specs.IntegerRows.{integer_rows}
 use Rattle.int_model.specs.Points.{IsPoint, IsBest, value_at}
@@ -24,9 +25,9 @@ use Rattle.solve_cli.specs.declared.status.Input.TheVariants.{ModelText, ProofTe
 use Rattle.solve_cli.specs.declared.status.Status.{Status}
 use Rattle.solve_cli.specs.declared.status.Status.TheVariants.{Optimal, Infeasible, Accepted, Spent, Text, TooLong, Large, Rejected}
 use Rattle.mps_fields.specs.Lines.{most_bytes}
-use Rattle.solve_cli.specs.Words.{Reading, Task, solving, checking}
+use Rattle.solve_cli.specs.Words.{Reading, Task, solving, checking, making}
 use Rattle.solve_cli.specs.Limits.{most_proof_bytes}
-use Rattle.solve_cli.specs.Report.{bare_lines, found_lines, limit_line, text_line, accepted_lines, reject_line}
+use Rattle.solve_cli.specs.Report.{bare_lines, found_lines, market_line, limit_line, text_line, accepted_lines, reject_line}
 use Rattle.solve_cli.specs.Outputs.{Output, only, with_proof}
 
 -- the model's rows of whole numbers, over its rounded bounds
@@ -37,16 +38,16 @@ rows_of model = (integer_rows model).whole
 abbrev pub enough_nodes : Model → ℕ
 enough_nodes model = (widest (rows_of model).box + 2) ^ (2 * length model.columns)
 
--- No part is too large, and a best point was found: a tree of no more nodes than the budget shows that none is better. The proof
--- claims that point, a checker accepts it, and it is within the limit of a proof.
-pub record FindsBest (nodes : ℕ) (model : Model) (out : Output) : Type 0 where
+-- No part is too large, and a best point was found: a tree of no more nodes than the budget shows that none is better. The report
+-- has a line for each of these columns. The proof claims that point, a checker accepts it, and it is within the limit of a proof.
+pub record FindsBest (columns : List Column) (nodes : ℕ) (model : Model) (out : Output) : Type 0 where
   pub small : HasNoLargePart model
   pub point : List ℤ
   pub best : IsBest model point
   pub tree : Tree
   pub shown : Holds (rows_of model) (Some (cut_value (rows_of model) point)) [] tree
   pub within : records tree ≤ nodes
-  pub report : out ≡ with_proof (found_lines (codes "OPTIMAL") (value_at model point) model.columns point (records tree) (plain_splits tree)) (proof_text (claims.Optimal point) tree)
+  pub report : out ≡ with_proof (found_lines (codes "OPTIMAL") (value_at model point) columns point (records tree) (plain_splits tree)) (proof_text (claims.Optimal point) tree)
   pub accepted : Accepts (rows_of model) out.proof (claims.Optimal point)
   pub short : length out.proof ≤ most_proof_bytes
 
@@ -63,13 +64,13 @@ pub record FindsNone (nodes : ℕ) (model : Model) (out : Output) : Type 0 where
   pub short : length out.proof ≤ most_proof_bytes
 
 -- the report of a budget that is spent, with the best point if one was found
-abbrev pub spent_lines : Model → Option (List ℤ) → ℕ → ℕ → List (List ℕ)
-spent_lines model (Some point) nodes plain = found_lines (codes "SPENT") (value_at model point) model.columns point nodes plain
-spent_lines model None nodes plain = bare_lines (codes "SPENT") nodes plain
+abbrev pub spent_lines : List Column → Model → Option (List ℤ) → ℕ → ℕ → List (List ℕ)
+spent_lines columns model (Some point) nodes plain = found_lines (codes "SPENT") (value_at model point) columns point nodes plain
+spent_lines columns model None nodes plain = bare_lines (codes "SPENT") nodes plain
 
 -- No part is too large, and the budget is spent: as many nodes were worked as it has, and some node is open. What was worked
 -- holds for the best point that was found. The budget is smaller than what decides every model of the same size.
-pub record SpendsBudget (nodes : ℕ) (model : Model) (out : Output) : Type 0 where
+pub record SpendsBudget (columns : List Column) (nodes : ℕ) (model : Model) (out : Output) : Type 0 where
   pub small : HasNoLargePart model
   pub best : Option (List ℤ)
   pub known : IfSome best (IsPoint model)
@@ -78,20 +79,27 @@ pub record SpendsBudget (nodes : ℕ) (model : Model) (out : Output) : Type 0 wh
   pub counted : records_of_part part ≡ nodes
   pub unfinished : 0 < open_runs part
   pub few : nodes < enough_nodes model
-  pub report : out ≡ with_proof (spent_lines model best nodes (plain_splits_of_part part)) (part_text part)
+  pub report : out ≡ with_proof (spent_lines columns model best nodes (plain_splits_of_part part)) (part_text part)
 
 -- the model's first part that is too large
 pub record FindsLarge (model : Model) (part : Part) (out : Output) : Type 0 where
   pub first : IsFirstLarge model part
   pub report : out ≡ only (limit_line model part ∷ [])
 
--- what solving a model comes to with a budget of so many nodes
-abbrev pub Solves : ℕ → Model → Status → Output → Type 0
-Solves nodes model Optimal out = FindsBest nodes model out
-Solves nodes model Infeasible out = FindsNone nodes model out
-Solves nodes model Spent out = SpendsBudget nodes model out
-Solves nodes model (Large part) out = FindsLarge model part out
-Solves nodes model _ out = ⊥
+-- what solving a model comes to with a budget of so many nodes, where the values of these columns are printed
+abbrev pub Solves : List Column → ℕ → Model → Status → Output → Type 0
+Solves columns nodes model Optimal out = FindsBest columns nodes model out
+Solves columns nodes model Infeasible out = FindsNone nodes model out
+Solves columns nodes model Spent out = SpendsBudget columns nodes model out
+Solves columns nodes model (Large part) out = FindsLarge model part out
+Solves columns nodes model _ out = ⊥
+
+-- What solving a market comes to with a budget of 1000 nodes, summed up: the line of its numbers, and then the report without the
+-- lines of the columns.
+pub record SumsUp (rows columns start : ℕ) (model : Model) (status : Status) (out : Output) : Type 0 where
+  pub lines : List (List ℕ)
+  pub summary : out.lines ≡ market_line rows columns start ∷ lines
+  pub solved : Solves [] 1000 model status (with_proof lines out.proof)
 
 -- what a claim says of a model: this point is best, or there is none; an open claim says nothing
 abbrev pub IsTrueFor : Model → Claim → Type 0
@@ -133,8 +141,9 @@ Checks proof model _ out = ⊥
 
 -- what a model comes to under a task, with these bytes in PROOF
 abbrev pub Comes : Task → List ℕ → Model → Status → Output → Type 0
-Comes (solving nodes) proof = Solves nodes
+Comes (solving nodes) proof = λ model. Solves model.columns nodes model
 Comes checking proof = Checks proof
+Comes (making rows columns start) proof = SumsUp rows columns start
 
 -- the text states this model
 abbrev pub States : Reading → List ℕ → Model → Type 0

@@ -92,12 +92,32 @@ pub record Reading : Type 0 where
 abbrev pub reading : Layout → Option ℤ → Reading
 reading layout upper = record { layout = layout; upper = upper }
 
--- what is done with a model: it is solved with a budget of so many nodes, or a proof is checked against it
+-- what is done: the model in MODEL is solved with a budget of so many nodes, or a proof is checked against it, or the market of so
+-- many rows and columns from this start is put into MODEL and solved
 pub data Task : Type 0 where
   solving : ℕ → Task
   checking : Task
+  making : ℕ → ℕ → ℕ → Task
 
--- a command: what is done with the model that MODEL states, and the names of MODEL and PROOF
+-- the budget of nodes, where there is one; that of a market is the one that solving has where none is chosen
+abbrev pub budget_of : Task → Option ℕ
+budget_of (solving nodes) = Some nodes
+budget_of checking = None
+budget_of (making rows columns start) = Some 1000
+
+-- the model is read from MODEL
+abbrev pub ReadsModel : Task → Type 0
+ReadsModel (solving nodes) = Unit {0}
+ReadsModel checking = Unit {0}
+ReadsModel (making rows columns start) = ⊥
+
+-- the model is made, and put into MODEL
+abbrev pub MakesModel : Task → Type 0
+MakesModel (solving nodes) = ⊥
+MakesModel checking = ⊥
+MakesModel (making rows columns start) = Unit {0}
+
+-- a command: what is done, how the text of MODEL is read, and the names of MODEL and PROOF
 pub record Job : Type 0 where
   pub task : Task
   pub reading : Reading
@@ -127,12 +147,37 @@ solve_of files = job (solving (unwrap_or files.chosen.nodes 1000)) files.chosen.
 abbrev pub check_of : Files → Option Job
 check_of files = if is_some files.chosen.nodes then None else Some (job checking files.chosen.layout files.chosen.upper files.model files.proof)
 
+-- the greatest numbers of rows and of columns of a market, and the greatest start of its stream
+abbrev pub most_market_rows : ℕ
+most_market_rows = 10
+
+abbrev pub most_market_columns : ℕ
+most_market_columns = 100
+
+abbrev pub most_start : ℕ
+most_start = 2147483646
+
+-- a market is read in free form, without an upper bound for columns that have none
+abbrev pub market_job : List ℕ → List ℕ → ℕ → ℕ → ℕ → Job
+market_job model proof rows columns start = job (making rows columns start) Free None model proof
+
+-- three numbers in front of two different names of files
+abbrev pub numbered_market : List ℕ → List ℕ → Option ℕ → Option ℕ → Option ℕ → Option Job
+numbered_market model proof (Some rows) (Some columns) (Some start) = if are_file_names model proof then Some (market_job model proof rows columns start) else None
+numbered_market model proof rows columns start = None
+
+abbrev pub market_of : List (List ℕ) → Option Job
+market_of (rows ∷ columns ∷ start ∷ model ∷ proof ∷ []) =
+    numbered_market model proof (number_within 1 most_market_rows rows) (number_within 1 most_market_columns columns) (number_within 1 most_start start)
+market_of words = None
+
 -- the command, or none
 abbrev pub command_of : List (List ℕ) → Option Job
 command_of [] = None
 command_of (word ∷ words) =
     if bytes_eq word (codes "solve") then option_map solve_of (files_of words)
-    else if bytes_eq word (codes "check") then option_and_then check_of (files_of words) else None
+    else if bytes_eq word (codes "check") then option_and_then check_of (files_of words)
+    else if bytes_eq word (codes "market") then market_of words else None
 
 -- the words of an option
 abbrev pub option_words : SolveOption → List (List ℕ)
@@ -146,18 +191,35 @@ IsOption Fixed = Unit {0}
 IsOption (Upper bound) = (pos 0 ≤ℤ bound) × (bound ≤ℤ pos most_upper)
 IsOption (Nodes count) = (1 ≤ count) × (count ≤ most_nodes)
 
--- the first word of a command
-abbrev pub task_word : Task → List ℕ
-task_word (solving nodes) = codes "solve"
-task_word checking = codes "check"
+-- the words in front of the options: the name of the command, and the numbers of a market
+abbrev pub task_words : Task → List (List ℕ)
+task_words (solving nodes) = codes "solve" ∷ []
+task_words checking = codes "check" ∷ []
+task_words (making rows columns start) = codes "market" ∷ decimal rows ∷ decimal columns ∷ decimal start ∷ []
 
--- the budget is the one that is chosen, or 1000 where none is; a check has none
+-- the budget is the one that is chosen, or 1000 where none is; a check and a market have none to choose
 abbrev pub HasBudget : Task → Option ℕ → Type 0
 HasBudget (solving nodes) chosen = nodes ≡ unwrap_or chosen 1000
 HasBudget checking chosen = chosen ≡ None
+HasBudget (making rows columns start) chosen = chosen ≡ None
 
--- `solve [--fixed] [--upper U] [--nodes N] MODEL PROOF` or `check [--fixed] [--upper U] MODEL PROOF`: options in any order, each at
--- most once, and two different names of files
+-- the numbers of a market are within their limits
+pub record IsMarket (rows columns start : ℕ) : Type 0 where
+  pub some_rows : 1 ≤ rows
+  pub few_rows : rows ≤ most_market_rows
+  pub some_columns : 1 ≤ columns
+  pub few_columns : columns ≤ most_market_columns
+  pub first_start : 1 ≤ start
+  pub last_start : start ≤ most_start
+
+-- a market has no options
+abbrev pub HasNumbers : Task → List SolveOption → Type 0
+HasNumbers (solving nodes) options = Unit {0}
+HasNumbers checking options = Unit {0}
+HasNumbers (making rows columns start) options = (options ≡ []) × IsMarket rows columns start
+
+-- `solve [--fixed] [--upper U] [--nodes N] MODEL PROOF`, `check [--fixed] [--upper U] MODEL PROOF` or `market M N START MODEL PROOF`:
+-- options in any order, each at most once, and two different names of files
 pub record Spells (words : List (List ℕ)) (command : Job) : Type 0 where
   pub options : List SolveOption
   pub in_range : All IsOption options
@@ -165,5 +227,6 @@ pub record Spells (words : List (List ℕ)) (command : Job) : Type 0 where
   pub once : settled none_chosen options ≡ Some chosen
   pub meant : command.reading ≡ reading chosen.layout chosen.upper
   pub budget : HasBudget command.task chosen.nodes
+  pub numbers : HasNumbers command.task options
   pub names : are_file_names command.model command.proof ≡ true
-  pub spelled : words ≡ task_word command.task ∷ (flat_map option_words options ++ command.model ∷ command.proof ∷ [])
+  pub spelled : words ≡ task_words command.task ++ (flat_map option_words options ++ command.model ∷ command.proof ∷ [])

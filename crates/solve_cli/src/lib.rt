@@ -4,6 +4,7 @@
 mod check;
 mod counts;
 mod file_name;
+mod market_file;
 mod program;
 mod proof;
 mod reply;

@@ -7,12 +7,13 @@ ghost use Rattle.mps_fields.specs.Lines.{most_bytes};
 ghost use Rattle.solve_cli.specs.Words.{most_nodes, reading as reading_of, solving, checking, job, command_of};
 ghost use Rattle.solve_cli.specs.Limits.{most_proof_bytes, untaken};
 ghost use Rattle.solve_cli.specs.Verdict.{Checks};
-ghost use Rattle.solve_cli.specs.Answer.{run_given, desk_faults, Answer, IsJudged, IsOfProof, IsCalm, KeepsFaults, FailedInWrite, TakesInput, IsComplete};
+ghost use Rattle.solve_cli.specs.Answer.{run_given, desk_faults, Answer, IsJudged, IsOfProof, IsCalm, KeepsFaults, FailedInWrite, TakesInput, IsComplete, AnswersMarket};
 ghost use Rattle.solve_cli.specs.Headline.{Headline};
 ghost use Rattle.solve_cli.specs.Solving.{HasRows, Replies, IsReplied, IsSaid, IsRead, IsModelTaken, IsTried, StaysCalm, LeavesCalm, FailsInTake, FailsAsTold};
 
 use crate::check::check_text;
 use crate::file_name::FileName;
+use crate::market_file::make_file;
 use crate::proof::put_proof;
 use crate::reply::{Reply, line_reply};
 use crate::search::search_model;
@@ -106,7 +107,7 @@ fn solve_file<D: Desk>(
     match take_model(alloc, layout, upper, model, desk)? {
         Stated::Stopped(reply) => Ok(reply),
         Stated::Rows(model, rows) => {
-            let reply = search_model(alloc, &model, &rows, nodes)?;
+            let reply = search_model(alloc, model.columns.items(), &rows, nodes)?;
             put_proof(alloc, desk, proof.text(), &reply.proof)?;
             Ok(reply)
         }
@@ -172,6 +173,13 @@ fn reply_to<D: Desk>(alloc: Global, words: &Vec<String>, desk: &mut D) -> Result
             model,
             proof,
         } => check_files(alloc, layout, upper, &model, &proof, desk),
+        Command::Market {
+            m,
+            n,
+            start,
+            model,
+            proof,
+        } => make_file(alloc, m, n, start, &model, &proof, desk),
     }
 }
 
@@ -190,10 +198,11 @@ fn say<D: Desk>(desk: &mut D, report: &[u8], status: Status) -> Status
     }
 }
 
-/// Runs the command that the words spell: takes its inputs from the desk, puts the proof of a model that it solved, says the
-/// report, and answers the status.
+/// Runs the command that the words spell: takes its inputs from the desk, or makes a market and puts its text; puts the proof of a
+/// model that it solved, says the report, and answers the status.
 pub fn run<D: Desk>(alloc: Global, words: &Vec<String>, desk: &mut D) -> Status
-    // Each status has its reason, what is said is its report, and what is put into PROOF is its proof.
+    // Each status has its reason, what is said is its report, what is put into PROOF is its proof, and what is put into MODEL is the
+    // market that a command makes.
     ensures answer { Answer
         (run_given (map string_bytes words.now.items) (D.left desk.old) (D.written desk.old) (D.faults desk.old))
         (desk_faults (D.faults desk.new) (D.fault_at desk.new)) (D.written desk.new)
@@ -217,6 +226,9 @@ pub fn run<D: Desk>(alloc: Global, words: &Vec<String>, desk: &mut D) -> Status
     ensures write { FailedInWrite (desk_faults (D.faults desk.old) (D.fault_at desk.old)) (desk_faults (D.faults desk.new) (D.fault_at desk.new)) → result ≡ Status.WriteFault }
 
     ensures inputs { TakesInput (run_given (map string_bytes words.now.items) (D.left desk.old) (D.written desk.old) (D.faults desk.old)) (D.left desk.new) result }
+
+    // A market that is made has no fault, and nothing is read.
+    ensures market { AnswersMarket (run_given (map string_bytes words.now.items) (D.left desk.old) (D.written desk.old) (D.faults desk.old)) result }
 {
     match reply_to(alloc, words, desk) {
         Ok(reply) => say(desk, &reply.report, reply.status),

@@ -9,7 +9,7 @@ use crate::counts::Counts;
 use crate::proof::Proof;
 use crate::report::{found_report, limit_report, line_report, reject_report, text_report};
 use crate::status::Status;
-use int_model::{IntRows, Model, Part};
+use int_model::{Column, IntRows, Model, Part};
 use mps_model::TextFault;
 use sequence::NoMemory;
 use std::alloc::Global;
@@ -63,20 +63,19 @@ pub(crate) fn limit_reply(alloc: Global, model: &Model, part: Part) -> Result<Re
     })
 }
 
-/// The report of a search that found this point.
+/// The report of a search that found this point, with a line for each of these columns.
 pub(crate) fn point_report(
     alloc: Global,
     head: &[u8],
-    model: &Model,
+    columns: &[Column],
     rows: &IntRows,
     point: &[i128],
     counts: Counts,
 ) -> Result<Vec<u8>, NoMemory>
     requires { Meets rows.now.whole point.now }
-    ensures { IfOk result (λ report. report.items ≡ report_of (found_lines head.now (value_in rows.now point.now) model.now.columns point.now counts.nodes counts.plain)) }
+    ensures { IfOk result (λ report. report.items ≡ report_of (found_lines head.now (value_in rows.now point.now) columns.now point.now counts.nodes counts.plain)) }
 {
     let value = rows.value(point);
-    let columns = model.columns.items();
     found_report(alloc, head, &value, columns, point, counts)
 }
 

@@ -1,7 +1,7 @@
 //! The report of a run.
 ghost use Rattle.std.specs.Prelude.{◌≡◌, ◌++◌, ◌∷◌, [], pos, IfOk, OnOk, codes, decimal};
 ghost use Rattle.std.specs.Fmt.{signed_decimal};
-ghost use Rattle.solve_cli.specs.Report.{report_of, fraction_text, point_lines, best_lines, count_lines, bare_lines, found_lines, limit_line, IsPartOf, text_line, name_of, reject_name, reject_line};
+ghost use Rattle.solve_cli.specs.Report.{report_of, fraction_text, point_lines, best_lines, count_lines, bare_lines, found_lines, market_line, limit_line, IsPartOf, text_line, name_of, reject_name, reject_line};
 
 use crate::counts::Counts;
 use frac128::Frac;
@@ -88,6 +88,34 @@ fn put_count(text: &mut Vec<u8>, count: u64) -> Result<(), NoMemory>
 {
     let mut buffer = Buffer::new();
     put_line(text, buffer.format(count).as_bytes())
+}
+
+// Puts the number in decimal digits and a blank at the end.
+fn put_first(text: &mut Vec<u8>, number: u32) -> Result<(), NoMemory>
+    ensures { OnOk result (text.new.items ≡ text.old.items ++ decimal number ++ 32 ∷ []) }
+{
+    let mut buffer = Buffer::new();
+    text.extend_from_slice(buffer.format(number).as_bytes())?;
+    text.push(b' ')?;
+    Ok(())
+}
+
+/// The report on a market, behind the line of its numbers.
+pub(crate) fn market_report(
+    alloc: Global,
+    m: u32,
+    n: u32,
+    start: u32,
+    report: &[u8],
+) -> Result<Vec<u8>, NoMemory>
+    ensures { IfOk result (λ text. text.items ≡ report_of (market_line m n start ∷ []) ++ report.now) }
+{
+    let mut text = Vec::from_slice(alloc, b"MARKET ")?;
+    put_first(&mut text, m)?;
+    put_first(&mut text, n)?;
+    put_count(&mut text, u64::from(start))?;
+    text.extend_from_slice(report)?;
+    Ok(text)
 }
 
 /// The report of a search that found a point: its value, and a line for each column.

@@ -22,8 +22,8 @@ pub(crate) enum Stated {
     Stopped(Reply),
 }
 
-// Makes the integer rows of a model.
-fn rows_of(alloc: Global, model: Model) -> Result<Stated, NoMemory>
+/// Makes the integer rows of a model.
+pub(crate) fn rows_of(alloc: Global, model: Model) -> Result<Stated, NoMemory>
     requires { KeepsLimits model }
     ensures { IfOk result (IsRowed model) }
 {

@@ -309,6 +309,14 @@ fn words_are_obeyed(rt: HostRuntime) -> Result<(), Fail> {
         ("solve --nodes 1001 m p", TWO_COINS, 3, "WORDS\n"),
         ("solve --nodes 5 --nodes 5 m p", TWO_COINS, 3, "WORDS\n"),
         ("solve --lanes 1 m p", TWO_COINS, 3, "WORDS\n"),
+        ("market 0 3 1 m p", TWO_COINS, 3, "WORDS\n"),
+        ("market 11 3 1 m p", TWO_COINS, 3, "WORDS\n"),
+        ("market 2 101 1 m p", TWO_COINS, 3, "WORDS\n"),
+        ("market 2 3 2147483647 m p", TWO_COINS, 3, "WORDS\n"),
+        ("market 2 03 1 m p", TWO_COINS, 3, "WORDS\n"),
+        ("market 2 3 1 m m", TWO_COINS, 3, "WORDS\n"),
+        ("market 2 3 m p", TWO_COINS, 3, "WORDS\n"),
+        ("market --fixed 2 3 1 m p", TWO_COINS, 3, "WORDS\n"),
     ] {
         let mut desk = MemDesk::new(alloc);
         desk.add_input("m", text.as_bytes())?;
@@ -689,6 +697,67 @@ fn a_proof_that_is_put_is_accepted(rt: HostRuntime) -> Result<(), Fail> {
             report.as_bytes(),
             "to the proof of {model}"
         );
+    }
+    Ok(())
+}
+
+#[test]
+fn a_market_is_put_and_solved(rt: HostRuntime) -> Result<(), Fail> {
+    let alloc = rt.alloc();
+    let mut desk = MemDesk::new(alloc);
+    let status = run(alloc, &words(alloc, "market 2 3 1 m p")?, &mut desk);
+    assert_eq!(rt; status.code(), 1);
+    assert_eq!(rt; desk.written("m"), SPLIT_FREE.as_bytes());
+    assert_eq!(rt;
+        desk.said(),
+        b"MARKET 2 3 1\nINFEASIBLE\nNODES 1\nPLAIN 0\n".as_slice()
+    );
+    Ok(())
+}
+
+#[test]
+fn the_proof_of_a_market_is_accepted(rt: HostRuntime) -> Result<(), Fail> {
+    let alloc = rt.alloc();
+    let mut desk = MemDesk::new(alloc);
+    run(alloc, &words(alloc, "market 2 7 1 m p")?, &mut desk);
+    assert!(rt; desk.said().starts_with(b"MARKET 2 7 1\n"));
+    assert!(rt; desk.said().ends_with(b"\nPLAIN 0\n"));
+    // At most two slices for each split in five dimensions: 63 nodes decide it.
+    for (line, code) in [("check m p", 0), ("solve --nodes 63 m q", 1)] {
+        let mut other = MemDesk::new(alloc);
+        other.add_input("m", desk.written("m"))?;
+        other.add_input("p", desk.written("p"))?;
+        let status = run(alloc, &words(alloc, line)?, &mut other);
+        assert_eq!(rt; status.code(), code, "of {line}");
+    }
+    Ok(())
+}
+
+#[test]
+fn a_market_that_is_not_put_has_no_proof(rt: HostRuntime) -> Result<(), Fail> {
+    let alloc = rt.alloc();
+    // The first call puts the market, the next three the proof: its head, one node and its last line. The last call says the report.
+    for (call, model, proof) in [
+        (1, "", false),
+        (2, SPLIT_FREE, false),
+        (4, SPLIT_FREE, true),
+        (5, SPLIT_FREE, true),
+    ] {
+        let mut desk = MemDesk::new(alloc);
+        desk.fail_call(call)?;
+        let status = run(alloc, &words(alloc, "market 2 3 1 m p")?, &mut desk);
+        assert_eq!(rt; status.code(), 7, "where call {call} fails");
+        assert_eq!(rt;
+            desk.written("m"),
+            model.as_bytes(),
+            "where call {call} fails"
+        );
+        assert_eq!(rt;
+            !desk.written("p").is_empty(),
+            proof,
+            "where call {call} fails"
+        );
+        assert!(rt; desk.said().is_empty(), "where call {call} fails");
     }
     Ok(())
 }

@@ -2,7 +2,7 @@
 ghost use Rattle.std.specs.Prelude.{◌≡◌, ◌≤◌, true, IfOk, IfSome, length, map, option_and_then, option_map, string_bytes};
 ghost use Rattle.std.specs.List.{list_all};
 ghost use Rattle.mps_fields.specs.Decimal.{is_digit as digit, is_digits as digits};
-ghost use Rattle.solve_cli.specs.Words.{are_file_names as file_names, is_plain_number as plain_number, number_within, valued_option_of, first_option_of, words_in, with_option, settled, options_of, files_of, solve_of, check_of, none_chosen, command_of};
+ghost use Rattle.solve_cli.specs.Words.{are_file_names as file_names, is_plain_number as plain_number, number_within, valued_option_of, first_option_of, words_in, with_option, settled, options_of, files_of, solve_of, check_of, market_of, none_chosen, command_of};
 ghost use Rattle.solve_cli.specs.Commands.{GivesCommand, GivesFiles, job_view};
 ghost use Rattle.solve_cli.specs.declared.words.WordsStop.TheVariants.{NoMemory as no_memory};
 
@@ -17,7 +17,16 @@ const MOST_UPPER: u64 = 4_611_686_018_427_387_904;
 const MOST_NODES: u64 = 1_000;
 
 /// The budget of nodes where none is given.
-const DEFAULT_NODES: u32 = 1_000;
+pub(crate) const DEFAULT_NODES: u32 = 1_000;
+
+/// The greatest number of rows of a market.
+const MOST_MARKET_ROWS: u64 = 10;
+
+/// The greatest number of columns of a market.
+const MOST_MARKET_COLUMNS: u64 = 100;
+
+/// The greatest start of the stream of a market.
+const MOST_START: u64 = 2_147_483_646;
 
 /// An option of a command.
 #[derive(Clone, Copy, Debug, Drop, PartialEq, Eq)]
@@ -109,6 +118,15 @@ pub enum Command {
     Check {
         layout: Layout,
         upper: Option<i128>,
+        model: FileName,
+        proof: FileName,
+    },
+    /// Puts the text of the market with `m` rows (1 to 10) and `n` columns (1 to 100), from `start` (1 to 2147483646), into
+    /// `model`, and solves it with the budget that solving has where none is chosen. The proof of the answer will go into `proof`.
+    Market {
+        m: u32,
+        n: u32,
+        start: u32,
         model: FileName,
         proof: FileName,
     },
@@ -286,6 +304,33 @@ fn check_command(files: Files) -> Option<Command>
     })
 }
 
+// The market that the words behind the first one spell: three numbers in front of two names.
+fn read_market(alloc: Global, words: &[String]) -> Result<Command, WordsStop>
+    ensures { GivesCommand result (market_of (map string_bytes words.now)) }
+{
+    let [rows, columns, start, model, proof] = words else {
+        return Err(WordsStop::Words);
+    };
+    let (Some(m), Some(n), Some(start)) = (
+        number(rows.as_str(), 1, MOST_MARKET_ROWS),
+        number(columns.as_str(), 1, MOST_MARKET_COLUMNS),
+        number(start.as_str(), 1, MOST_START),
+    ) else {
+        return Err(WordsStop::Words);
+    };
+    let (model, proof) = (model.as_str(), proof.as_str());
+    if !are_file_names(model, proof) {
+        return Err(WordsStop::Words);
+    }
+    Ok(Command::Market {
+        m: m as u32,
+        n: n as u32,
+        start: start as u32,
+        model: FileName::of(alloc, model)?,
+        proof: FileName::of(alloc, proof)?,
+    })
+}
+
 /// The command that the words spell.
 pub fn read_words(alloc: Global, words: &Vec<String>) -> Result<Command, WordsStop>
     ensures { GivesCommand result (command_of (map string_bytes words.now.items)) }
@@ -302,6 +347,7 @@ pub fn read_words(alloc: Global, words: &Vec<String>) -> Result<Command, WordsSt
                 None => Err(WordsStop::Words),
             }
         }
+        [word, rest @ ..] if word.as_str() == "market" => read_market(alloc, rest),
         _ => Err(WordsStop::Words),
     }
 }
