@@ -1,7 +1,7 @@
 #!/usr/bin/env bash
-# Prints what the frame of a market split model takes: 1 to 5 equalities in 10 to 50 columns, whose factors are below 100 and whose
-# sides are half their sums, drawn by the generator of Lehmer. For each it prints the milliseconds and whether it was an excuse. It
-# builds in a temporary folder.
+# Prints what the frame of a market split model takes: 1 to 5 equalities in 10 to 50 columns, by fives, whose factors are below 100
+# and whose sides are half their sums, drawn by the generator of Lehmer from the start 1, and from 1 to 5 where 4 equalities have 25
+# or 30 columns, or 5 have 30 or 40. For each it prints the milliseconds and whether it was an excuse. It builds in a temporary folder.
 set -euo pipefail
 top=$(cd "$(dirname "$0")/.." && pwd)
 work=$(mktemp -d)
@@ -53,12 +53,12 @@ fn next(state: u64) -> u64 {
     state.wrapping_mul(48271) % 2147483647
 }
 
-// A row of the market after this state, and the state after it.
-fn row(alloc: Global, columns: usize, start: u64) -> Result<(Equality, u64), NoMemory>
+// A row of the market behind this state, and the state behind it.
+fn row(alloc: Global, columns: usize, before: u64) -> Result<(Equality, u64), NoMemory>
     ensures { IfOk result (λ drawn. length drawn.0.form ≡ columns) }
 {
     let mut items = Vec::with_capacity(alloc, columns)?;
-    let mut state = start;
+    let mut state = before;
     let mut sum = 0i128;
     for column in 0..columns {
         state = next(state);
@@ -76,12 +76,17 @@ fn row(alloc: Global, columns: usize, start: u64) -> Result<(Equality, u64), NoM
     ))
 }
 
-// The equalities of a market of so many rows and columns.
-fn market(alloc: Global, rows: usize, columns: usize) -> Result<Equalities, NoMemory>
+// The equalities of a market of so many rows and columns, with the start of its stream.
+fn market(
+    alloc: Global,
+    rows: usize,
+    columns: usize,
+    start: u64,
+) -> Result<Equalities, NoMemory>
     ensures { IfOk result (λ equalities. All (λ equality. length equality.form ≡ columns) equalities) }
 {
     let mut equalities = Equalities::new(alloc);
-    let mut state = 1;
+    let mut state = start;
     for _row in 0..rows {
         let (equality, after) = row(alloc, columns, state)?;
         equalities.push(equality)?;
@@ -100,18 +105,38 @@ fn answer(framed: Result<Framed, FrameStop>) -> &'static str {
     }
 }
 
+// How many starts a shape has.
+fn starts(rows: usize, columns: usize) -> u64
+    ensures { result ≤ 5 }
+{
+    match (rows, columns) {
+        (4, 25) | (4, 30) | (5, 30) | (5, 40) => 5,
+        _ => 1,
+    }
+}
+
+// The frame of one market.
+fn measure(rt: &HostRuntime, rows: usize, columns: usize, start: u64) -> io::Result<()>
+    requires { columns ≤ 256 }
+{
+    let Ok(equalities) = market(rt.alloc(), rows, columns, start) else {
+        return Ok(());
+    };
+    let clock = Instant::now(rt)?;
+    let framed = Frame::of(rt.alloc(), columns, &equalities);
+    let milli = clock.elapsed(rt)?.as_nanos() / 1000000;
+    let kind = answer(framed);
+    println!(rt; "frames: {rows} rows, {columns} columns, start {start}: {milli} ms, {kind}")?;
+    Ok(())
+}
+
 fn main(rt: HostRuntime) -> io::Result<()> {
     for rows in [1usize, 2, 3, 4, 5] {
-        for tens in 1usize..6 {
-            let columns = 10 * tens;
-            let Ok(equalities) = market(rt.alloc(), rows, columns) else {
-                return Ok(());
-            };
-            let start = Instant::now(&rt)?;
-            let framed = Frame::of(rt.alloc(), columns, &equalities);
-            let milli = start.elapsed(&rt)?.as_nanos() / 1000000;
-            let kind = answer(framed);
-            println!(rt; "frames: {rows} rows, {columns} columns: {milli} ms, {kind}")?;
+        for fives in 2usize..11 {
+            let columns = 5 * fives;
+            for start in 1..starts(rows, columns) + 1 {
+                measure(&rt, rows, columns, start)?;
+            }
         }
     }
     Ok(())
