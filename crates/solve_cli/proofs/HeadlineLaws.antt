@@ -1,5 +1,5 @@
 -- What an answer says of the model that the text of MODEL states.
-use Rattle.std.proofs.Common.{◌≡◌, ℕ, ℤ, ◌≤◌, List, [], ◌∷◌, length, Option, Some, None, refl, sym, ap, subst, ⊎_elim, ◌∙◌, arith}
+use Rattle.std.proofs.Common.{◌≡◌, ℕ, ℤ, ◌≤◌, List, [], ◌∷◌, length, Option, Some, None, sym, ap, subst, ⊎_elim, ◌∙◌, arith}
 use Rattle.std.specs.Prelude.{codes}
 use Rattle.std.proofs.lemmas.Option.{same_Some, none-some}
 use Rattle.mps_fields.specs.Lines.{most_bytes}
@@ -10,7 +10,6 @@ use Rattle.tree_checker.specs.Accepts.{Accepts}
 use Rattle.solve_cli.specs.declared.status.Status.{Status}
 use Rattle.solve_cli.specs.declared.status.Status.TheVariants.{Optimal, Infeasible, Accepted, Spent, Words, Text, TooLong, Large, ReadFault, WriteFault, NoMemory, Rejected}
 use Rattle.mps_model.specs.declared.layout.Layout.TheVariants.{Free}
-use Rattle.mps_model.specs.declared.fault.TextFault.{TextFault}
 use Rattle.mps_model.specs.Meaning.{meaning}
 use Rattle.mps_write.specs.Markets.{market_model}
 use Rattle.proof_text.specs.declared.claim.Claim.TheVariants as claims

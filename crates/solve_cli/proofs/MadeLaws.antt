@@ -1,26 +1,24 @@
 -- A market that is made: what was put, and what was taken.
-use Rattle.std.proofs.Common.{◌≡◌, ◌≢◌, ℕ, List, [], ◌∷◌, ◌++◌, inl, inr, ◌≤◌, length, take, Option, Some, None, refl, sym, ap, ◌∙◌, subst, subst₂, append-nil, arith}
-use Rattle.std.specs.Prelude.{IfOk, IsErrOf, OnOk, OnErr, option_map, Result, Ok, Err, All}
+use Rattle.std.proofs.Common.{◌≡◌, ℕ, List, [], ◌∷◌, ◌++◌, inl, inr, ◌≤◌, length, take, Option, Some, None, refl, sym, ap, ◌∙◌, subst, subst₂, append-nil, arith}
+use Rattle.std.specs.Prelude.{IfOk, IsErrOf, OnOk, OnErr, option_map, Result, Ok, Err}
 use Rattle.std.proofs.lemmas.List.{take_all}
 use Rattle.std.proofs.lemmas.Option.{none-some}
-use Rattle.desk_io.specs.Desk.{Fault, appended, AppendsSome, Same, SameButAt}
+use Rattle.desk_io.specs.Desk.{Fault, appended, AppendsSome, Same}
 use Rattle.desk_io.specs.FaultLaws.{rose_after}
 use Rattle.desk_io.specs.declared.desk.DeskStop.{DeskStop}
 use Rattle.desk_io.specs.declared.desk.DeskStop.TheVariants as stops
 use Rattle.int_model.specs.declared.model.Column.{Column}
-use Rattle.int_model.specs.declared.model.Row.{Row}
 use Rattle.int_model.specs.declared.model.Model.{Model}
-use Rattle.int_model.specs.IntegerRows.{IsDistinctBelow}
 use Rattle.mps_fields.specs.Lines.{most_bytes}
 use Rattle.mps_model.specs.declared.layout.Layout.TheVariants.{Free}
 use Rattle.mps_model.specs.Meaning.{meaning}
 use Rattle.mps_model.specs.ModelLimits.{KeepsLimits}
-use Rattle.mps_write.specs.PlainModels.{IsPlainRow, IsPlain}
+use Rattle.mps_write.specs.PlainModels.{IsPlain}
 use Rattle.mps_write.specs.CanonicalText.{canonical_text}
 use Rattle.mps_write.specs.Markets.{market_model}
 use Rattle.solve_cli.specs.declared.status.Status.{Status}
 use Rattle.solve_cli.specs.declared.status.Status.TheVariants.{Large, NoMemory}
-use Rattle.solve_cli.specs.Words.{making, ReadsModel, MakesModel, Job, market_job, command_of}
+use Rattle.solve_cli.specs.Words.{ReadsModel, MakesModel, Job, market_job, command_of}
 use Rattle.solve_cli.specs.MarketTexts.{market_text, made_text, StatesMarket}
 use Rattle.solve_cli.specs.Putting.{Told, IsPut}
 use Rattle.solve_cli.specs.Answer.{Given, desk_faults, IsOutput, IsBegun, Puts, IsOfProof, TakesInput}

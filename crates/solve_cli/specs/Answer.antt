@@ -1,6 +1,6 @@
 -- When a run answers which status, and what it says then.
 use Rattle.std.specs.Prelude.{◌≡◌, ◌⊎◌, ◌≤◌, ◌<◌, ℕ, ℤ, List, [], ◌∷◌, length, take, codes, Option, Some, None, option_map, IfSome}
-use Rattle.desk_io.specs.Desk.{Fault, fault, appended, AppendsSome, Same, SameButAt, Rose}
+use Rattle.desk_io.specs.Desk.{Fault, fault, appended, AppendsSome, Same, Rose}
 use Rattle.desk_io.specs.declared.desk.Call.TheVariants.{Take, Put, Say}
 use Rattle.int_model.specs.declared.model.Model.{Model}
 use Rattle.int_model.specs.Points.{IsPoint}

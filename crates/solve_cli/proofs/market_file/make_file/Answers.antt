@@ -1,19 +1,15 @@
-use Rattle.std.proofs.Common.{◌≡◌, ℕ, List, [], refl, sym, ap, subst, subst₂, ◌∙◌, inl, arith}
-use Rattle.std.specs.Prelude.{Ok, Err, length}
+use Rattle.std.proofs.Common.{[], refl, subst, subst₂, ◌∙◌, inl, arith}
+use Rattle.std.specs.Prelude.{Ok}
 use Rattle.std.proofs.lemmas.Result.{err_from_is_err_and}
-use Rattle.mps_model.specs.declared.layout.Layout.TheVariants.{Free}
-use Rattle.mps_model.specs.Meaning.{meaning}
-use Rattle.mps_fields.specs.Lines.{most_bytes}
 use Rattle.mps_write.specs.CanonicalText.{canonical_text}
 use Rattle.mps_write.specs.Markets.{market_model}
 use Rattle.solve_cli.specs.declared.status.Status.TheVariants.{NoMemory}
 use Rattle.solve_cli.specs.Words.{making, market_job}
 use Rattle.solve_cli.specs.MarketTexts.{market_text}
 use Rattle.solve_cli.specs.Outputs.{text_of}
-use Rattle.solve_cli.specs.Verdict.{Solves, SumsUp}
 use Rattle.solve_cli.specs.Answer.{run_given, desk_faults}
 use Rattle.solve_cli.specs.Putting.{told_by, IsPut}
-use Rattle.solve_cli.specs.Solving.{output_of, Replies}
+use Rattle.solve_cli.specs.Solving.{output_of}
 use Rattle.solve_cli.proofs.SpellLaws.{names_differ}
 use Rattle.solve_cli.proofs.SolveLaws.{nothing_begun, puts_nothing, replied_put, replied_stop, put_takes, comes_judged}
 use Rattle.solve_cli.proofs.MadeLaws.{text_of_market, all_bytes, made_whole, made_stop, takes_nothing, market_told, summed_of}

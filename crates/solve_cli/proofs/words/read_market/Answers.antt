@@ -1,4 +1,4 @@
-use Rattle.std.proofs.Common.{◌≡◌, Some, refl, sym, ap, ◌∙◌, arith}
+use Rattle.std.proofs.Common.{sym, ap, ◌∙◌, arith}
 use Rattle.std.specs.Prelude.{string_bytes}
 use Rattle.solve_cli.specs.Words.{number_within, most_market_rows, most_market_columns, most_start}
 use Rattle.solve_cli.proofs.WordLaws.{not_five, not_market, is_market}
