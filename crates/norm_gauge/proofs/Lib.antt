@@ -4,3 +4,4 @@ pub mod ProgramSteps
 pub mod GaugeSteps
 pub mod NarrowSteps
 pub mod PairGauges
+pub mod WorkedSystems

@@ -4,6 +4,8 @@
 mod gauge;
 mod pairs;
 mod program;
+#[cfg(test)]
+mod tests;
 mod widths;
 
 pub use gauge::Gauge;
