@@ -4,3 +4,4 @@ pub mod NodeSides
 pub mod NodeSystem
 pub mod NodePoints
 pub mod NodeLifting
+pub mod SideForms

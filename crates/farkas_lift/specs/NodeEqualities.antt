@@ -1,5 +1,5 @@
 -- The equalities of a node over its work columns, those that presolving keeps.
-use Rattle.std.specs.Prelude.{ℕ, ℤ, pos, List, [], ◌∷◌, ◌++◌, length, map, Option, Some, None, if◌then◌else◌, slice_index_or}
+use Rattle.std.specs.Prelude.{ℕ, ℤ, pos, List, [], ◌∷◌, ◌++◌, length, map, Option, Some, None, if◌then◌else◌, slice_index, slice_index_or}
 use Rattle.std.specs.Ordering.{int_eq}
 use Rattle.whole_rows.specs.WholeRows.{WholeRow, row_at}
 use Rattle.farkas_rows.specs.declared.path.Slice.{Slice}
@@ -22,9 +22,9 @@ equality_with factors (Some side) = record { form = factors; side = side } ∷ [
 abbrev pub row_equality : WholeRow → List Equality
 row_equality row = equality_with row.factors (common_side row.low row.high)
 
--- a form on the columns of the model, on the work columns alone
+-- a form on the columns of the model, on the work columns alone: for each the factor of its column in the model
 abbrev pub work_form : ReducedRows → List ℤ → List ℤ
-work_form rows form = map (λ column. slice_index_or form column (pos 0)) rows.column_numbers
+work_form rows form = joined (λ j. slice_index_or form (slice_index rows.column_numbers j) (pos 0) ∷ []) (length rows.rows.box)
 
 -- a slice, whose form is 0 in each column that is not kept, as an equality
 abbrev pub work_slice : ReducedRows → Slice → Equality

@@ -1,5 +1,5 @@
 -- Lifting multipliers of a node's system to multipliers of the model's own inequalities.
-use Rattle.std.specs.Prelude.{◌≡◌, ◌≢◌, ℕ, ◌+◌, ◌*◌, ◌<◌, ℤ, pos, ◌-ℤ◌, List, [], ◌∷◌, ◌++◌, length, map, get_or, Option, Some, None, if◌then◌else◌, int_lt, slice_index, ⊤}
+use Rattle.std.specs.Prelude.{◌≡◌, ◌≢◌, ℕ, ◌+◌, ◌*◌, ◌<◌, ℤ, pos, ◌-ℤ◌, List, [], ◌∷◌, ◌++◌, length, map, get_or, Option, Some, None, if◌then◌else◌, int_lt, slice_index, ⊤, ◌⊎◌, true, false, take}
 use Rattle.std.specs.Ordering.{int_eq}
 use Rattle.exact_math.specs.Rational.{ℚ, whole, neg_ℚ, ◌+ℚ◌, ◌*ℚ◌}
 use Rattle.exact_math.specs.RationalRing.{rationals}
@@ -44,29 +44,37 @@ with_multiples row [] forms = row
 with_multiples row (k ∷ times) [] = row
 with_multiples row (k ∷ times) (form ∷ forms) = with_multiples (with_multiple row k form) times forms
 
--- the weighted left sides over the work columns
-abbrev pub weighted : ReducedRows → List NodeSide → List ℚ → List ℚ
-weighted rows sides weights = with_multiples (zeros rationals (length rows.rows.box)) weights (side_forms rows sides)
+-- the weighted sum of forms over the work columns
+abbrev pub weighted : Substitution → List (List ℤ) → List ℚ → List ℚ
+weighted frame forms weights = with_multiples (zeros rationals (columns_of frame)) weights forms
 
--- the same in the coordinates of the frame: the left side g
-abbrev pub left_side : Substitution → ReducedRows → List NodeSide → List ℚ → List ℚ
-left_side frame rows sides weights = with_multiples (zeros rationals (dimension_of frame)) (weighted rows sides weights) (rows_in frame.to_work.lines)
+-- the same in the coordinates of the frame: its product with K
+abbrev pub left_side : Substitution → List (List ℤ) → List ℚ → List ℚ
+left_side frame forms weights = with_multiples (zeros rationals (dimension_of frame)) (weighted frame forms weights) (rows_in frame.to_work.lines)
 
--- g V
-abbrev pub back_form : Substitution → ReducedRows → List NodeSide → List ℚ → List ℚ
-back_form frame rows sides weights = with_multiples (zeros rationals (length rows.rows.box)) (left_side frame rows sides weights) (rows_in frame.back)
+-- and the product of that with V
+abbrev pub back_form : Substitution → List (List ℤ) → List ℚ → List ℚ
+back_form frame forms weights = with_multiples (zeros rationals (columns_of frame)) (left_side frame forms weights) (rows_in frame.back)
 
--- g V less the weighted left sides, one after another
-abbrev pub rest_form : Substitution → ReducedRows → List NodeSide → List ℚ → List ℚ
-rest_form frame rows sides weights = with_multiples (back_form frame rows sides weights) (negate rationals weights) (side_forms rows sides)
+-- less the forms, each so many times, one after another
+abbrev pub rest_form : Substitution → List (List ℤ) → List ℚ → List ℚ
+rest_form frame forms weights = with_multiples (back_form frame forms weights) (negate rationals weights) forms
+
+-- the inequalities that have weights: all of the node's system, with or without the cut
+abbrev pub weighted_sides : ReducedRows → List ℚ → List NodeSide
+weighted_sides rows weights = take (length weights) (node_sides rows true)
+
+-- there is one weight for each, with or without the cut
+abbrev pub HasOneEach : ReducedRows → List ℚ → Type 0
+HasOneEach rows weights = (length weights ≡ length (node_sides rows false)) ⊎ (length weights ≡ length (node_sides rows false) + 1)
 
 -- the left sides of the equalities
 abbrev pub equality_forms : ReducedRows → List Slice → List (List ℤ)
 equality_forms rows path = map (λ (equality : Equality). equality.form) (node_equalities rows path)
 
 -- the multipliers of the equalities
-abbrev pub equality_times : Substitution → ReducedRows → List Slice → List NodeSide → List ℚ → List ℚ
-equality_times frame rows path sides weights = lifted (equality_forms rows path) (rest_form frame rows sides weights)
+abbrev pub equality_times : Substitution → ReducedRows → List Slice → List ℚ → List ℚ
+equality_times frame rows path weights = lifted (equality_forms rows path) (rest_form frame (side_forms rows (weighted_sides rows weights)) weights)
 
 -- ---- the range
 
@@ -83,13 +91,17 @@ MultiplesStay row [] forms = ⊤
 MultiplesStay row (k ∷ times) [] = ⊤
 MultiplesStay row (k ∷ times) (form ∷ forms) = MultipleStays row k form × MultiplesStay (with_multiple row k form) times forms
 
--- no number on the way to the multipliers leaves the range, in the order in which they are formed
-pub record WeightsStay (frame : Substitution) (rows : ReducedRows) (path : List Slice) (sides : List NodeSide) (weights : List ℚ) : Type 0 where
-  pub weighted : MultiplesStay (zeros rationals (length rows.rows.box)) weights (side_forms rows sides)
-  pub left : MultiplesStay (zeros rationals (dimension_of frame)) (weighted rows sides weights) (rows_in frame.to_work.lines)
-  pub back : MultiplesStay (zeros rationals (length rows.rows.box)) (left_side frame rows sides weights) (rows_in frame.back)
-  pub rest : MultiplesStay (back_form frame rows sides weights) (negate rationals weights) (side_forms rows sides)
-  pub lifting : LiftStays (equality_forms rows path) (rest_form frame rows sides weights)
+-- no number on the way to what the equalities sum up to leaves the range, in the order in which they are formed
+pub record RestStays (frame : Substitution) (forms : List (List ℤ)) (weights : List ℚ) : Type 0 where
+  pub sum : MultiplesStay (zeros rationals (columns_of frame)) weights forms
+  pub left : MultiplesStay (zeros rationals (dimension_of frame)) (weighted frame forms weights) (rows_in frame.to_work.lines)
+  pub back : MultiplesStay (zeros rationals (columns_of frame)) (left_side frame forms weights) (rows_in frame.back)
+  pub rest : MultiplesStay (back_form frame forms weights) (negate rationals weights) forms
+
+-- nor to the multipliers
+pub record WeightsStay (frame : Substitution) (rows : ReducedRows) (path : List Slice) (weights : List ℚ) : Type 0 where
+  pub rest : RestStays frame (side_forms rows (weighted_sides rows weights)) weights
+  pub lifting : LiftStays (equality_forms rows path) (rest_form frame (side_forms rows (weighted_sides rows weights)) weights)
 
 -- ---- the numbers in the model
 
@@ -134,13 +146,30 @@ uses_of (places.Side number ∷ rest) (w ∷ weights) times = side_use number w 
 uses_of (places.Equality number ∷ rest) weights [] = []
 uses_of (places.Equality number ∷ rest) weights (t ∷ times) = equality_use number t ++ uses_of rest weights times
 
+-- the items of the lifted multipliers
+abbrev pub lifted_uses : WholeRows → Substitution → ReducedRows → List Slice → List ℚ → List FracUse
+lifted_uses model frame rows path weights = uses_of (node_places model rows (length path)) weights (equality_times frame rows path weights)
+
 -- ---- what they come to
 
--- The right side of the weights in the coordinates of the frame, for a cut of this value: the limits of the system.
-abbrev pub right_side : Substitution → ReducedRows → List NodeSide → ℤ → List ℚ → ℚ
-right_side frame rows sides value weights = dot rationals weights (map (λ side. whole (pulled frame.to_work (inequality_of rows value side)).limit) sides)
+-- the left side g of the weights in the coordinates of the frame
+abbrev pub system_left : Substitution → ReducedRows → List ℚ → List ℚ
+system_left frame rows weights = combination rationals (dimension_of frame) weights (map (λ side. wholes (pulled frame.to_work (inequality_of rows (pos 0) side)).factors) (weighted_sides rows weights))
 
--- The items, with the cut so many times, come to the form in the work columns, and to the limit; for every end of the node.
+-- g V, the form over the work columns
+abbrev pub system_form : Substitution → ReducedRows → List ℚ → List ℚ
+system_form frame rows weights = combination rationals (columns_of frame) (system_left frame rows weights) (whole_rows (rows_in frame.back))
+
+-- the right side s of the weights, for a cut of this value
+abbrev pub system_limit : Substitution → ReducedRows → ℤ → List ℚ → ℚ
+system_limit frame rows value weights = dot rationals weights (map (λ side. whole (pulled frame.to_work (inequality_of rows value side)).limit) (weighted_sides rows weights))
+
+-- s + g V x0
+abbrev pub lifted_limit : Substitution → ReducedRows → ℤ → List ℚ → ℚ
+lifted_limit frame rows value weights = system_limit frame rows value weights +ℚ dot rationals (system_form frame rows weights) (wholes frame.to_work.base)
+
+-- The items, with the cut of this value so many times, come to the form in the work columns, and to the limit, whatever the end
+-- of the node.
 pub record ComesTo (model : WholeRows) (rows : ReducedRows) (path : List Slice) (end : Option Inequality) (value : ℤ) (cut : ℚ) (items : List FracUse) (form : List ℚ) (limit : ℚ) : Type 0 where
-  pub form : (k : ℕ) → k < length rows.rows.box → cut *ℚ cost_in model (slice_index rows.column_numbers k) +ℚ total (factor_in model path end (slice_index rows.column_numbers k)) items ≡ get_or form k none
-  pub limit : cut *ℚ whole ((value -ℤ pos 1) -ℤ rows.cost_constant) +ℚ total (reduced_limit_in model path end) items ≡ limit
+  pub in_columns : (k : ℕ) → k < length rows.rows.box → cut *ℚ cost_in model (slice_index rows.column_numbers k) +ℚ total (factor_in model path end (slice_index rows.column_numbers k)) items ≡ get_or form k none
+  pub at_limit : cut *ℚ whole ((value -ℤ pos 1) -ℤ rows.cost_constant) +ℚ total (reduced_limit_in model path end) items ≡ limit

@@ -28,9 +28,9 @@ abbrev pub node_system : Substitution → ReducedRows → Option ℤ → List In
 node_system frame rows cut = map (λ side. pulled frame.to_work (inequality_of rows (cut_of cut) side)) (node_sides rows (is_some cut))
 
 -- the system has these inequalities
-pub record IsSystemOf (width : ℕ) (inequalities : List Inequality) (system : System) : Type 0 where
+pub record IsSystemOf (coordinates : ℕ) (inequalities : List Inequality) (system : System) : Type 0 where
   pub height : system.rows.rows ≡ length inequalities
-  pub width : system.rows.width ≡ width
+  pub width : system.rows.width ≡ coordinates
   pub size : length system.rows.items ≡ system.rows.rows * system.rows.width
   pub rows : rows_in system.rows ≡ map (λ (inequality : Inequality). inequality.factors) inequalities
   pub limits : system.limits ≡ map (λ (inequality : Inequality). inequality.limit) inequalities
