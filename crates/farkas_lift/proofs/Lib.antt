@@ -4,3 +4,6 @@ pub mod FrameSpace
 pub mod RestLaws
 pub mod JoinedLaws
 pub mod UseLaws
+pub mod NodeValues
+pub mod NodeTotals
+pub mod NodeAgree
