@@ -7,3 +7,4 @@ pub mod UseLaws
 pub mod NodeValues
 pub mod NodeTotals
 pub mod NodeAgree
+pub mod NodeComes

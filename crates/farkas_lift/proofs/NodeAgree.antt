@@ -9,6 +9,7 @@ use Rattle.exact_math.specs.Rational.{ℚ, whole, neg_ℚ}
 use Rattle.exact_math.specs.RationalRing.{rationals}
 use Rattle.exact_math.specs.RingLaws as Laws
 use Rattle.exact_vectors.specs.Vectors.{negate}
+use Rattle.whole_rows.specs.declared.bounds.Bounds.{Bounds}
 use Rattle.whole_rows.specs.WholeRows.{WholeRow, WholeRows, row_at, bounds_at, IsWithinLimits}
 use Rattle.farkas_rows.specs.declared.path.Slice.{Slice}
 use Rattle.farkas_rows.specs.Inequalities.{Inequality, at_most, at_least, unit, inequality_at}
@@ -126,4 +127,73 @@ module _ (model : WholeRows) (rows : ReducedRows) (path : List Slice) (end : Opt
           ∙ ap whole (Node.negate-at (get_or path e no_slice).form (get_or rows.column_numbers k 0))
           ∙ whole_turned (get_or (get_or path e no_slice).form (get_or rows.column_numbers k 0) (pos 0))
           ∙ ap neg_ℚ (sym (ap (λ (x : Inequality). whole (factor_of (get_or rows.column_numbers k 0) x)) (slice_upper-named e lt)));
+    }
+
+  -- ---- the limits, without what the removed columns contribute
+
+  module _ (value : ℤ) (kept-forms : All (λ (slice : Slice). IsOverKept model slice.form) path) where
+    less : Inequality → ℚ
+    less x = whole (x.limit -ℤ removed_part model.box x.factors)
+
+    nothing_less : (a b : ℤ) → b ≡ pos 0 → a -ℤ b ≡ a
+    nothing_less a b e = omega (linear, e)
+
+    turned_less : (a b d : ℤ) → d ≡ neg_ℤ b → neg_ℤ a -ℤ d ≡ neg_ℤ (a -ℤ b)
+    turned_less a b d e = omega (linear, e)
+
+    upper-limit : (i : ℕ) → i < length rows.rows.rows → IsSome (row_at rows.rows i).high → reduced_limit_in model path end (2 * get_or rows.row_numbers i 0) ≡ whole (unwrap_or (row_at rows.rows i).high (pos 0))
+    upper-limit i h is =
+        let found = high_there i h is in
+        ap (λ y. reduced_limit_in model path end (2 * y)) (Node.row-number model rows limits reduced i h)
+        ∙ ap (λ (x : Inequality). whole (x.limit -ℤ removed_part model.box x.factors)) (upper-named (place (needed_flags model.box model.rows) i) found.0 (Node.row-below model rows limits reduced i h) found.1)
+        ∙ sym (ap (λ (row : WholeRow). whole (unwrap_or row.high (pos 0))) (row-is i h) ∙ ap (λ (o : Option ℤ). whole (unwrap_or (moved_side (removed_part model.box (row_at model (place (needed_flags model.box model.rows) i)).factors) o) (pos 0))) found.1)
+
+    lower-limit : (i : ℕ) → i < length rows.rows.rows → IsSome (row_at rows.rows i).low → reduced_limit_in model path end (2 * get_or rows.row_numbers i 0 + 1) ≡ whole (neg_ℤ (unwrap_or (row_at rows.rows i).low (pos 0)))
+    lower-limit i h is =
+        let found = low_there i h is in
+        let f : List ℤ = (row_at model (place (needed_flags model.box model.rows) i)).factors in
+        ap (λ y. reduced_limit_in model path end (2 * y + 1)) (Node.row-number model rows limits reduced i h)
+        ∙ ap (λ (x : Inequality). whole (x.limit -ℤ removed_part model.box x.factors)) (lower-named (place (needed_flags model.box model.rows) i) found.0 (Node.row-below model rows limits reduced i h) found.1)
+        ∙ ap whole (turned_less found.0 (removed_part model.box f) (removed_part model.box (negate integers f)) (Node.negated_part model.box f))
+        ∙ sym (ap (λ (row : WholeRow). whole (neg_ℤ (unwrap_or row.low (pos 0)))) (row-is i h) ∙ ap (λ (o : Option ℤ). whole (neg_ℤ (unwrap_or (moved_side (removed_part model.box (row_at model (place (needed_flags model.box model.rows) i)).factors) o) (pos 0)))) found.1)
+
+    of_unit : (j : ℕ) → j < length rows.rows.box → removed_part model.box (unit (length model.box) (place (open_flags model.box) j)) ≡ pos 0
+    of_unit j h = Node.unit_part model.box (place (open_flags model.box) j) (Node.column-below model rows limits reduced j h) (Node.column-open model rows limits reduced j h)
+
+    neg_zero : (b : ℤ) → b ≡ pos 0 → neg_ℤ b ≡ pos 0
+    neg_zero b e = omega (linear, e)
+
+    of_slice : (e : ℕ) → e < length path → removed_part model.box (get_or path e no_slice).form ≡ pos 0
+    of_slice e lt = Node.no_part model.box (get_or path e no_slice).form (kept-forms e no_slice lt)
+
+    pub limits-agree : Agrees model rows path (reduced_limit_in model path end) (λ side. whole (inequality_of rows value side).limit) (λ equality. whole equality.side)
+    limits-agree = record {
+      upper = λ i h is. upper-limit i h is;
+      lower = λ i h is. lower-limit i h is;
+      column_upper = λ j h.
+          ap (λ y. reduced_limit_in model path end (2 * (length model.rows + y))) (Node.column-number model rows limits reduced j h)
+          ∙ ap (λ (x : Inequality). whole (x.limit -ℤ removed_part model.box x.factors)) (bound_upper-named (place (open_flags model.box) j) (Node.column-below model rows limits reduced j h))
+          ∙ ap whole (nothing_less (bounds_at model (place (open_flags model.box) j)).high _ (of_unit j h))
+          ∙ ap (λ (b : Bounds). whole b.high) (sym (Node.bounds-is model rows limits reduced j h));
+      column_lower = λ j h.
+          ap (λ y. reduced_limit_in model path end (2 * (length model.rows + y) + 1)) (Node.column-number model rows limits reduced j h)
+          ∙ ap (λ (x : Inequality). whole (x.limit -ℤ removed_part model.box x.factors)) (bound_lower-named (place (open_flags model.box) j) (Node.column-below model rows limits reduced j h))
+          ∙ ap whole (nothing_less (neg_ℤ (bounds_at model (place (open_flags model.box) j)).low) _ (Node.negated_part model.box (unit (length model.box) (place (open_flags model.box) j)) ∙ neg_zero _ (of_unit j h)))
+          ∙ ap (λ (b : Bounds). whole (neg_ℤ b.low)) (sym (Node.bounds-is model rows limits reduced j h));
+      row = λ i side h e.
+          let both = Node.both_sides (row_at rows.rows i).low (row_at rows.rows i).high side e in
+          upper-limit i h (is_some_of (row_at rows.rows i).high side both.1) ∙ ap (λ (o : Option ℤ). whole (unwrap_or o (pos 0))) both.1;
+      row_turned = λ i side h e.
+          let both = Node.both_sides (row_at rows.rows i).low (row_at rows.rows i).high side e in
+          lower-limit i h (is_some_of (row_at rows.rows i).low side both.0)
+          ∙ ap (λ (o : Option ℤ). whole (neg_ℤ (unwrap_or o (pos 0)))) both.0
+          ∙ whole_turned side
+          ∙ ap neg_ℚ (sym (upper-limit i h (is_some_of (row_at rows.rows i).high side both.1) ∙ ap (λ (o : Option ℤ). whole (unwrap_or o (pos 0))) both.1));
+      slice = λ e lt.
+          ap (λ (x : Inequality). whole (x.limit -ℤ removed_part model.box x.factors)) (slice_upper-named e lt) ∙ ap whole (nothing_less (get_or path e no_slice).beta _ (of_slice e lt));
+      slice_turned = λ e lt.
+          ap (λ (x : Inequality). whole (x.limit -ℤ removed_part model.box x.factors)) (slice_lower-named e lt)
+          ∙ ap whole (nothing_less (neg_ℤ (get_or path e no_slice).beta) _ (Node.negated_part model.box (get_or path e no_slice).form ∙ neg_zero _ (of_slice e lt)))
+          ∙ whole_turned (get_or path e no_slice).beta
+          ∙ ap neg_ℚ (sym (ap (λ (x : Inequality). whole (x.limit -ℤ removed_part model.box x.factors)) (slice_upper-named e lt) ∙ ap whole (nothing_less (get_or path e no_slice).beta _ (of_slice e lt))));
     }

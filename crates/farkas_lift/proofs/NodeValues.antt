@@ -75,11 +75,11 @@ no_part (b ∷ box) (a ∷ form) h =
     (no_part box form (λ column lt removed. h (suc column) (omega arith) removed))
 
 -- the part of one column
-unit_part : (box : List Bounds) (j : ℕ) → j < length box → is_open (get_or box j (record { low = pos 0; high = pos 0 })) ≡ true → removed_part box (unit (length box) j) ≡ pos 0
+pub unit_part : (box : List Bounds) (j : ℕ) → j < length box → is_open (get_or box j (record { low = pos 0; high = pos 0 })) ≡ true → removed_part box (unit (length box) j) ≡ pos 0
 unit_part box j h opens =
     no_part box (unit (length box) j) (λ column lt removed. unit-other (length box) j column (λ same. cc (opens, removed, ap (λ (i : ℕ). is_open (get_or box i (record { low = pos 0; high = pos 0 }))) same)))
 
-negated_part : (box : List Bounds) (form : List ℤ) → removed_part box (negate integers form) ≡ neg_ℤ (removed_part box form)
+pub negated_part : (box : List Bounds) (form : List ℤ) → removed_part box (negate integers form) ≡ neg_ℤ (removed_part box form)
 negated_part box form = Dot.dot-negate_left integers form (removed_values box)
 
 module _ (model : WholeRows) (rows : ReducedRows) (limits : IsWithinLimits model) (reduced : IsReduced model rows) where
