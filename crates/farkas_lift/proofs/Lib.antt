@@ -8,3 +8,4 @@ pub mod NodeValues
 pub mod NodeTotals
 pub mod NodeAgree
 pub mod NodeComes
+pub mod NodePlaces

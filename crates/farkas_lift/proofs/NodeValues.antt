@@ -95,10 +95,10 @@ module _ (model : WholeRows) (rows : ReducedRows) (limits : IsWithinLimits model
   length-opens : length (open_flags model.box) ≡ length model.box
   length-opens = length-map model.box is_open
 
-  rows_count : length rows.rows.rows ≡ length (positions 0 (needed_flags model.box model.rows))
+  pub rows_count : length rows.rows.rows ≡ length (positions 0 (needed_flags model.box model.rows))
   rows_count = ap length reduced.rows ∙ length-map (select (needed_flags model.box model.rows) model.rows) (reduced_row model.box) ∙ select-length 0 (needed_flags model.box model.rows) model.rows length-flags
 
-  columns_count : length rows.rows.box ≡ length (positions 0 (open_flags model.box))
+  pub columns_count : length rows.rows.box ≡ length (positions 0 (open_flags model.box))
   columns_count = ap length reduced.box ∙ select-length 0 (open_flags model.box) model.box length-opens
 
   -- the row of the model that a work row is
