@@ -106,3 +106,18 @@ select-length first [] xs e = refl
 select-length first (f ∷ flags) [] e = absurd (omega arith)
 select-length first (true ∷ flags) (x ∷ xs) e = ap suc (select-length (suc first) flags xs (omega arith))
 select-length first (false ∷ flags) (x ∷ xs) e = select-length (suc first) flags xs (omega arith)
+
+-- ---- a loop that puts parts at the end
+
+pub next_part : {A : Type 0} (part : ℕ → List A) (i : ℕ) (old now new : List A) → now ≡ old ++ joined part i → new ≡ now ++ part i → new ≡ old ++ joined part (i + 1)
+next_part part i old now new e f = f ∙ ap (λ l. l ++ part i) e ∙ append_assoc old (joined part i) (part i) ∙ ap (λ k. old ++ joined part k) (sym (add-one i))
+
+pub last_part : {A : Type 0} (part : ℕ → List A) (i count : ℕ) (old now : List A) → i ≡ count → now ≡ old ++ joined part i → now ≡ old ++ joined part count
+last_part part i count old now same e = e ∙ ap (λ k. old ++ joined part k) same
+
+-- the same from an empty list
+pub next_alone : {A : Type 0} (part : ℕ → List A) (i : ℕ) (now new : List A) → now ≡ joined part i → new ≡ now ++ part i → new ≡ joined part (i + 1)
+next_alone part i now new e f = f ∙ ap (λ l. l ++ part i) e ∙ ap (joined part) (sym (add-one i))
+
+pub last_alone : {A : Type 0} (part : ℕ → List A) (i count : ℕ) (now : List A) → i ≡ count → now ≡ joined part i → now ≡ joined part count
+last_alone part i count now same e = e ∙ ap (joined part) same

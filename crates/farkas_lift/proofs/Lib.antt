@@ -9,3 +9,6 @@ pub mod NodeTotals
 pub mod NodeAgree
 pub mod NodeComes
 pub mod NodePlaces
+pub mod MultipleLaws
+pub mod UseSteps
+pub mod GridSteps
