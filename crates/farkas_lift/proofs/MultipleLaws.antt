@@ -1,5 +1,6 @@
 -- The loops that add multiples of forms to a row.
 use Rattle.std.proofs.Common.{◌≡◌, ◌≢◌, ℕ, zero, suc, ◌+◌, ◌<◌, ◌≤◌, ℤ, pos, List, [], ◌∷◌, length, get_or, set, drop, refl, sym, ap, ap₂, subst, ◌∙◌, arith, add-one, drop-cons, below_more}
+use Rattle.std.specs.Prelude.{Result, Ok, Err, OnErr}
 use Rattle.std.proofs.lemmas.List.{get_or-set_same, get_or-set_other, get_or_default, ext_get_or}
 use Rattle.exact_math.specs.Rational.{ℚ, whole, neg_ℚ, ◌+ℚ◌, ◌*ℚ◌}
 use Rattle.exact_math.specs.RationalLaws.{zero_from_num}
@@ -12,6 +13,11 @@ use Rattle.row_lifting.specs.Lifting.{none}
 use Rattle.farkas_lift.specs.NodeLifting.{with_multiple, with_multiples, EntryStays, MultipleStays, MultiplesStay}
 use Rattle.farkas_lift.proofs.FrameSpace.{length-wholes}
 use Rattle.farkas_lift.proofs.Lists as Lists
+
+-- a fact that stands whatever the answer
+pub on_err : {T E P : Type 0} (r : Result T E) → P → OnErr r P
+on_err (Ok x) p = tt
+on_err (Err e) p = p
 
 -- an item read
 pub read_at : (xs : List ℚ) (i : ℕ) (x : ℚ) → i < length xs → x ≡ get_or xs i x → x ≡ get_or xs i none

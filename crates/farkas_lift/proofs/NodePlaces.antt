@@ -65,12 +65,14 @@ cut_side-few true = omega arith
 
 pub sides-few : (rows : ReducedRows) (has_cut : Bool) → length (node_sides rows has_cut) ≤ 2 * length rows.rows.rows + 2 * length rows.rows.box + 1
 sides-few rows has_cut =
-    omega (arith,
-    length-append (joined (row_sides rows) (length rows.rows.rows)) (joined column_sides (length rows.rows.box) ++ cut_side has_cut),
-    length-append (joined column_sides (length rows.rows.box)) (cut_side has_cut),
-    joined-few (row_sides rows) (length rows.rows.rows) 2 (λ i. sides_unless-few (common_side (row_at rows.rows i).low (row_at rows.rows i).high) (row_at rows.rows i) i),
-    joined-few column_sides (length rows.rows.box) 2 (λ j. omega arith),
-    cut_side-few has_cut)
+    omega (
+      arith,
+      length-append (joined (row_sides rows) (length rows.rows.rows)) (joined column_sides (length rows.rows.box) ++ cut_side has_cut),
+      length-append (joined column_sides (length rows.rows.box)) (cut_side has_cut),
+      joined-few (row_sides rows) (length rows.rows.rows) 2 (λ i. sides_unless-few (common_side (row_at rows.rows i).low (row_at rows.rows i).high) (row_at rows.rows i) i),
+      joined-few column_sides (length rows.rows.box) 2 (λ j. omega arith),
+      cut_side-few has_cut,
+    )
 
 equality_with-few : (factors : List ℤ) (o : Option ℤ) → length (equality_with factors o) ≤ 1
 equality_with-few factors None = omega arith

@@ -152,8 +152,8 @@ module _ (model : WholeRows) (rows : ReducedRows) (limits : IsWithinLimits model
   -- the columns keep their order
   pub column-apart : (j k : ℕ) → j < length rows.rows.box → k < length rows.rows.box → k ≢ j → place (open_flags model.box) k ≢ place (open_flags model.box) j
   column-apart j k h l ne = λ same. absurd (either j k ne
-    (λ lt. omega (arith, same, place_rises 0 (open_flags model.box) j k lt (omega (arith, columns_count))))
-    (λ lt. omega (arith, same, place_rises 0 (open_flags model.box) k j lt (omega (arith, columns_count)))))
+      (λ lt. omega (arith, same, place_rises 0 (open_flags model.box) j k lt (omega (arith, columns_count))))
+      (λ lt. omega (arith, same, place_rises 0 (open_flags model.box) k j lt (omega (arith, columns_count)))))
     where
       either : {P : Type 0} (j k : ℕ) → k ≢ j → (j < k → P) → (k < j → P) → P
       either j k ne f g = grind arith

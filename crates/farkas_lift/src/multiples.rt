@@ -51,6 +51,7 @@ fn add_multiple(row: &mut [Frac], times: &Frac, form: &[i128]) -> Result<(), Wid
 }
 
 /// An entry with the product of the multiplier and the factor added.
+#[tactic(auto, using(crate::proofs::MultipleLaws::nothing_added))]
 fn raised(entry: &Frac, times: &Frac, factor: i128) -> Result<Frac, Wide>
     ensures { OkIff result (EntryStays entry.now times.now factor) (entry.now +ℚ times.now *ℚ whole factor) }
 {
