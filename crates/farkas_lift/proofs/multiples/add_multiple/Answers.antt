@@ -37,4 +37,4 @@ returns-in_err-row-clause-wide c =
     let number : c.args.times.now.num ≢ pos 0 = search rules in
     let entry : get_or c.loop-j.row c.loop-j.j c.index-row-j.result ≡ get_or c.args.row.now c.loop-j.j none = sym c.index-row-j.is ∙ read_at c.loop-j.row c.loop-j.j c.index-row-j.result inside_now c.index-row-j.is ∙ c.loop-j.invariant.left c.loop-j.j (omega arith) in
     let refused = simp to_z-of_z at c.in_err-row.ensures in
-    on_err c.from_residual-in_err-row.result (entry-out c.args.row.now c.args.times.now c.args.form.now c.loop-j.j _ (get_or c.args.form.now c.loop-j.j (pos 0)) inside number entry refl refused)
+    on_err c.from_residual.result (entry-out c.args.row.now c.args.times.now c.args.form.now c.loop-j.j _ (get_or c.args.form.now c.loop-j.j (pos 0)) inside number entry refl refused)
