@@ -1,0 +1,114 @@
+-- What the exact comparison of multiples uses.
+use Rattle.std.proofs.Common.{◌≡◌, ◌↔◌, ⊎_elim, ℕ, zero, suc, ◌+◌, ◌*◌, ◌/◌, ◌%◌, ◌<◌, ◌≤◌, ℤ, pos, negsuc, nat_abs, ◌*ℤ◌, ◌≤ℤ◌, ◌<ℤ◌, refl, sym, ap, ap₂, subst, ◌∙◌, arith}
+use Rattle.std.proofs.lemmas.Int.{ints}
+use Rattle.std.proofs.Math.Nat.{mul_assoc, mul_comm, mul-le-mul, suc-mul, div-add-mod}
+use Rattle.exact_math.specs.Rational.{ℚ, whole, ◌*ℚ◌, ◌≤ℚ◌, ◌<ℚ◌}
+use Rattle.exact_math.specs.RationalCode.{den_pos}
+use Rattle.exact_math.specs.RationalOrder as Order
+use Rattle.generalised_reduce.specs.DifferenceLaws.{none}
+
+-- ---- quotients
+
+add_mul : (a b c : ℕ) → (a + b) * c ≡ a * c + b * c
+add_mul a b c = omega (arith, mul_comm (a + b) c, mul_add c a b, mul_comm c a, mul_comm c b)
+  where
+    mul_add : (c a b : ℕ) → c * (a + b) ≡ c * a + c * b
+    mul_add c a b = omega arith
+
+-- the double of a quotient
+pub double_value : (w r d : ℕ) → (2 * w) * d + (r + r) ≡ 2 * (w * d + r)
+double_value w r d = omega (arith, mul_assoc 2 w d)
+
+pub double_value-more : (w r rest d : ℕ) → rest + d ≡ r + r → (2 * w + 1) * d + rest ≡ 2 * (w * d + r)
+double_value-more w r rest d e = omega (arith, mul_assoc 2 w d, add_mul (2 * w) 1 d)
+
+-- a number more
+pub more_value : (w r rest d n : ℕ) → rest + d ≡ r + n → (w + 1) * d + rest ≡ (w * d + r) + n
+more_value w r rest d n e = omega (arith, add_mul w 1 d)
+
+-- a product of a number that is below the divisor has a quotient of at most the other factor
+pub small_quotient : (w r d t n : ℕ) → w * d + r ≡ t * n → n < d → w ≤ t
+small_quotient w r d t n e h = ⊎_elim (λ (l : w ≤ t). l) (λ (l : t < w). absurd (too_much l)) (cases w t)
+  where
+    cases : (w t : ℕ) → (w ≤ t) ⊎ (t < w)
+    cases w t = omega arith
+    too_much : t < w → ⊥
+    too_much l =
+        let first : suc t * d ≤ w * d = mul-le-mul l (omega arith) in
+        let second : t * n ≤ t * d = mul-le-mul (omega arith) (omega arith) in
+        omega (arith, suc-mul t d)
+
+-- an even multiple
+pub even_value : (t n v : ℕ) → v ≡ 2 * ((t / 2) * n) → t % 2 ≡ 0 → v ≡ t * n
+even_value t n v e h =
+    let twice : t ≡ 2 * (t / 2) = omega (arith, div-add-mod t 2) in
+    e ∙ sym (mul_assoc 2 (t / 2) n) ∙ ap (λ k. k * n) (sym twice)
+
+-- an odd one
+pub odd_value : (t n v : ℕ) → v ≡ 2 * ((t / 2) * n) → (t % 2 ≡ 0 → ⊥) → v + n ≡ t * n
+odd_value t n v e h =
+    let below : t % 2 < 2 = omega arith in
+    let twice : t ≡ 2 * (t / 2) + 1 = omega (arith, div-add-mod t 2) in
+    omega (arith, mul_assoc 2 (t / 2) n, add_mul (2 * (t / 2)) 1 n, ap (λ k. k * n) twice)
+
+-- ---- a multiple of a fraction
+
+pub multiple_value : (t s d b high low over under rest : ℕ) → (over * b + low) ≡ t * (s / d) → under * d + rest ≡ t * (s % d) → ((over + (low + under) / b) * b + (low + under) % b) * d + rest ≡ t * s
+multiple_value t s d b high low over under rest first second =
+    let digits : b * ((low + under) / b) + (low + under) % b ≡ low + under = div-add-mod (low + under) b in
+    let left : (over + (low + under) / b) * b + (low + under) % b ≡ t * (s / d) + under = omega (arith, add_mul over ((low + under) / b) b, mul_comm ((low + under) / b) b) in
+    let parts : d * (s / d) + s % d ≡ s = div-add-mod s d in
+    let whole_part : (t * (s / d)) * d ≡ t * (d * (s / d)) = mul_assoc t (s / d) d ∙ ap (λ k. t * k) (mul_comm (s / d) d) in
+    let all : t * (d * (s / d) + s % d) ≡ t * (d * (s / d)) + t * (s % d) = times_sum t (d * (s / d)) (s % d) in
+    ap (λ k. k * d + rest) left ∙ omega (arith, add_mul (t * (s / d)) under d, whole_part, all, ap (λ k. t * k) parts)
+  where
+    times_sum : (t a c : ℕ) → t * (a + c) ≡ t * a + t * c
+    times_sum t a c = omega (arith, mul_comm t (a + c), add_mul a c t, mul_comm t a, mul_comm t c)
+
+-- ---- comparisons
+
+-- by the first digit
+pub digit_below : (a c h k l m b : ℕ) → a ≡ h * b + l → c ≡ k * b + m → l < b → h < k → a < c
+digit_below a c h k l m b first second low lt =
+    let more : suc h * b ≤ k * b = mul-le-mul lt (omega arith) in
+    omega (arith, suc-mul h b)
+
+-- of fractions, by their whole parts
+pub part_below : (h k r s d e : ℕ) → r < d → s < e → h < k → (h * d + r) * e < (k * e + s) * d
+part_below h k r s d e first second lt =
+    let up : suc h * d ≤ k * d = mul-le-mul lt (omega arith) in
+    let under : suc (h * d + r) ≤ k * d = omega (arith, suc-mul h d) in
+    let times : suc (h * d + r) * e ≤ (k * d) * e = mul-le-mul under (omega arith) in
+    let same : (k * d) * e ≡ (k * e) * d = mul_assoc k d e ∙ ap (λ q. k * q) (mul_comm d e) ∙ sym (mul_assoc k e d) in
+    omega (arith, suc-mul (h * d + r) e, add_mul (k * e) s d)
+
+-- of fractions with the same whole part, by what remains
+pub rest_value : (h r s d e : ℕ) → (h * d + r) * e ≡ (h * d) * e + r * e
+rest_value h r s d e = add_mul (h * d) r e
+
+pub same_part : (h d e : ℕ) → (h * d) * e ≡ (h * e) * d
+same_part h d e = mul_assoc h d e ∙ ap (λ q. h * q) (mul_comm d e) ∙ sym (mul_assoc h e d)
+
+-- ---- rational multiples
+
+size_of : (p : ℚ) → none ≤ℚ p → p.num ≡ pos (nat_abs p.num)
+size_of p h = not_below p.num (Order.num_nonneg p h)
+  where
+    not_below : (z : ℤ) → pos 0 ≤ℤ z → z ≡ pos (nat_abs z)
+    not_below (pos n) h = refl
+    not_below (negsuc n) h = absurd (omega (arith, ints))
+
+cross : (t u : ℕ) (p q : ℚ) → none ≤ℚ p → none ≤ℚ q → (t * nat_abs p.num) * q.den < (u * nat_abs q.num) * p.den → ((pos t *ℤ p.num) *ℤ pos (1 * q.den)) <ℤ ((pos u *ℤ q.num) *ℤ pos (1 * p.den))
+cross t u p q hp hq h =
+    let P : ℤ → ℤ → Type 0 = λ a b. ((pos t *ℤ a) *ℤ pos (1 * q.den)) <ℤ ((pos u *ℤ b) *ℤ pos (1 * p.den)) in
+    subst (λ a. P a q.num) (sym (size_of p hp)) (subst (λ b. P (pos (nat_abs p.num)) b) (sym (size_of q hq)) (whole_cross (t * nat_abs p.num) (u * nat_abs q.num) p.den q.den h))
+  where
+    whole_cross : (a b c d : ℕ) → a * d < b * c → pos (a * (1 * d)) <ℤ pos (b * (1 * c))
+    whole_cross a b c d h = let one_d : 1 * d ≡ d = omega arith in let one_c : 1 * c ≡ c = omega arith in omega (arith, ints, ap (λ k. a * k) one_d, ap (λ k. b * k) one_c)
+
+positive_den : (p : ℚ) → 0 < 1 * p.den
+positive_den p = let h : 0 < p.den = den_pos p in omega arith
+
+pub multiple_lt : (t u : ℕ) (p q : ℚ) → none ≤ℚ p → none ≤ℚ q → (t * nat_abs p.num) * q.den < (u * nat_abs q.num) * p.den → (whole (pos t) *ℚ p) <ℚ (whole (pos u) *ℚ q)
+unfolding ◌*ℚ◌ whole
+multiple_lt t u p q hp hq h = Order.lt_frac (pos t *ℤ p.num) (pos u *ℤ q.num) (1 * p.den) (1 * q.den) (positive_den p) (positive_den q) (cross t u p q hp hq h)
