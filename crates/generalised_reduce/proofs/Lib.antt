@@ -4,3 +4,4 @@ pub mod MultipleSteps
 pub mod TestSteps
 pub mod BestSteps
 pub mod TurnSteps
+pub mod WorkedStrip

@@ -1,5 +1,6 @@
 -- What the exact comparison of multiples uses.
 use Rattle.std.proofs.Common.{◌≡◌, ◌↔◌, ⊎_elim, ℕ, zero, suc, ◌+◌, ◌*◌, ◌/◌, ◌%◌, ◌<◌, ◌≤◌, ℤ, pos, negsuc, nat_abs, ◌*ℤ◌, ◌≤ℤ◌, ◌<ℤ◌, refl, sym, ap, ap₂, subst, ◌∙◌, arith}
+use Rattle.std.proofs.lemmas.Bool.{cases_lt}
 use Rattle.std.proofs.lemmas.Int.{ints}
 use Rattle.std.proofs.Math.Nat.{mul_assoc, mul_comm, mul-le-mul, suc-mul, div-add-mod}
 use Rattle.exact_math.specs.Rational.{ℚ, whole, ◌*ℚ◌, ◌≤ℚ◌, ◌<ℚ◌}
@@ -9,11 +10,11 @@ use Rattle.generalised_reduce.specs.DifferenceLaws.{none}
 
 -- ---- quotients
 
+times_le : (a b c d : ℕ) → a ≤ b → c ≤ d → a * c ≤ b * d
+times_le a b c d h k = mul-le-mul h k
+
 add_mul : (a b c : ℕ) → (a + b) * c ≡ a * c + b * c
-add_mul a b c = omega (arith, mul_comm (a + b) c, mul_add c a b, mul_comm c a, mul_comm c b)
-  where
-    mul_add : (c a b : ℕ) → c * (a + b) ≡ c * a + c * b
-    mul_add c a b = omega arith
+add_mul a b c = omega arith
 
 -- the double of a quotient
 pub double_value : (w r d : ℕ) → (2 * w) * d + (r + r) ≡ 2 * (w * d + r)
@@ -28,14 +29,12 @@ more_value w r rest d n e = omega (arith, add_mul w 1 d)
 
 -- a product of a number that is below the divisor has a quotient of at most the other factor
 pub small_quotient : (w r d t n : ℕ) → w * d + r ≡ t * n → n < d → w ≤ t
-small_quotient w r d t n e h = ⊎_elim (λ (l : w ≤ t). l) (λ (l : t < w). absurd (too_much l)) (cases w t)
+small_quotient w r d t n e h = ⊎_elim (λ (l : t < w). absurd (too_much l)) (λ (l : w ≤ t). l) (cases_lt t w)
   where
-    cases : (w t : ℕ) → (w ≤ t) ⊎ (t < w)
-    cases w t = omega arith
     too_much : t < w → ⊥
     too_much l =
-        let first : suc t * d ≤ w * d = mul-le-mul l (omega arith) in
-        let second : t * n ≤ t * d = mul-le-mul (omega arith) (omega arith) in
+        let first : suc t * d ≤ w * d = times_le (suc t) w d d (omega arith) (omega arith) in
+        let second : t * n ≤ t * d = times_le t t n d (omega arith) (omega arith) in
         omega (arith, suc-mul t d)
 
 -- an even multiple
@@ -70,15 +69,15 @@ multiple_value t s d b high low over under rest first second =
 -- by the first digit
 pub digit_below : (a c h k l m b : ℕ) → a ≡ h * b + l → c ≡ k * b + m → l < b → h < k → a < c
 digit_below a c h k l m b first second low lt =
-    let more : suc h * b ≤ k * b = mul-le-mul lt (omega arith) in
+    let more : suc h * b ≤ k * b = times_le (suc h) k b b (omega arith) (omega arith) in
     omega (arith, suc-mul h b)
 
 -- of fractions, by their whole parts
 pub part_below : (h k r s d e : ℕ) → r < d → s < e → h < k → (h * d + r) * e < (k * e + s) * d
 part_below h k r s d e first second lt =
-    let up : suc h * d ≤ k * d = mul-le-mul lt (omega arith) in
+    let up : suc h * d ≤ k * d = times_le (suc h) k d d (omega arith) (omega arith) in
     let under : suc (h * d + r) ≤ k * d = omega (arith, suc-mul h d) in
-    let times : suc (h * d + r) * e ≤ (k * d) * e = mul-le-mul under (omega arith) in
+    let times : suc (h * d + r) * e ≤ (k * d) * e = times_le (suc (h * d + r)) (k * d) e e under (omega arith) in
     let same : (k * d) * e ≡ (k * e) * d = mul_assoc k d e ∙ ap (λ q. k * q) (mul_comm d e) ∙ sym (mul_assoc k e d) in
     omega (arith, suc-mul (h * d + r) e, add_mul (k * e) s d)
 

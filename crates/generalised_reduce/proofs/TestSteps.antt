@@ -22,7 +22,7 @@ use Rattle.generalised_reduce.specs.declared.halt.Halt.TheVariants as halts
 
 -- ---- the conditions of a width
 
-product_le : (a b c d : ℕ) → a ≤ b → c ≤ d → a * c ≤ b * d
+pub product_le : (a b c d : ℕ) → a ≤ b → c ≤ d → a * c ≤ b * d
 product_le a b c d h k = mul-le-mul h k
 
 pub ready_condition : (t : Table ℤ) (limits form : List ℤ) → IsReady t limits → length form ≡ t.width → All IsNarrow form → MeetsCondition t limits form

@@ -1,13 +1,15 @@
 -- What the turns of a reduction use.
-use Rattle.std.proofs.Common.{◌≡◌, ◌≢◌, ⊎_elim, ℕ, zero, suc, ◌+◌, ◌-◌, ◌*◌, ◌<◌, ◌≤◌, ℤ, pos, ◌+ℤ◌, List, [], ◌∷◌, ◌++◌, length, get_or, set, take, refl, sym, ap, ap₂, subst, ◌∙◌, arith, All, get_or-append, length-append, inr}
+use Rattle.std.proofs.Common.{◌≡◌, ◌≢◌, ⊎_elim, ℕ, zero, suc, ◌+◌, ◌-◌, ◌*◌, ◌<◌, ◌≤◌, ℤ, pos, ◌+ℤ◌, List, [], ◌∷◌, ◌++◌, length, get_or, set, take, map, refl, sym, ap, ap₂, subst, ◌∙◌, arith, All, length-append, inr, lit<}
 use Rattle.std.proofs.lemmas.Bool.{cases_lt}
 use Rattle.std.proofs.lemmas.List.{get_or-take, length-map, length-set, length-take}
-use Rattle.std.proofs.lemmas.List.Elements.{All-set}
+use Rattle.std.proofs.lemmas.List.Elements.{All-cons, All-nil, All-set}
+use Rattle.std.proofs.Math.ListN.{get_or-append}
 use Rattle.std.proofs.Math.Seq.{get_or-append_seam}
 use Rattle.exact_math.specs.Rational.{ℚ, whole, ◌+ℚ◌, ◌*ℚ◌, ◌≤ℚ◌}
 use Rattle.exact_math.specs.RationalRing.{rationals, whole_add}
+use Rattle.exact_math.specs.Ring.{integers}
 use Rattle.exact_math.specs.RingSolver.{ring, reads}
-use Rattle.exact_vectors.specs.Vectors.{add, scale}
+use Rattle.exact_vectors.specs.Vectors.{add, scale, zeros}
 use Rattle.exact_vectors.specs.Matrices.{HasWidth}
 use Rattle.exact_vectors.specs.MatrixLaws as Matrix
 use Rattle.frac128.specs.Range.{IsNarrow}
@@ -17,7 +19,9 @@ use Rattle.norm_gauge.specs.Widths.{AreNarrow, Polytope, IsAtMost, IsWidth}
 use Rattle.norm_gauge.specs.declared.gauge.Gauge.{Gauge}
 use Rattle.spaces.specs.Multiples.{with_multiple}
 use Rattle.unimodular_pair.specs.Moves.{combined, exchanged, CombinationStays}
-use Rattle.unimodular_pair.specs.Pairs.{AreInverse, Matrices}
+use Rattle.unimodular_pair.specs.Gathering.{unit_vectors}
+use Rattle.unimodular_pair.specs.PairLaws.{AreInverse-identity}
+use Rattle.unimodular_pair.specs.Pairs.{AreInverse, Matrices, identity}
 use Rattle.unimodular_pair.specs.declared.step.Step.{Step}
 use Rattle.unimodular_pair.specs.declared.step.Step.TheVariants.{Swap, Combine}
 use Rattle.generalised_reduce.specs.BoundLaws.{forms_wide}
@@ -28,7 +32,7 @@ use Rattle.generalised_reduce.specs.Ready.{FitsSystem, IsBestMultiple, IsLeastWi
 use Rattle.generalised_reduce.specs.Reduced.{forms_of, form_at, raised, IsReducedAt, IsLovaszScarfReduced}
 use Rattle.generalised_reduce.specs.States.{AreGauges, IsReducedBelow, Stands, progress}
 use Rattle.generalised_reduce.specs.ThinLaws.{width_of}
-use Rattle.generalised_reduce.proofs.TestSteps.{gauge_as}
+use Rattle.generalised_reduce.proofs.TestSteps.{gauge_as, product_le}
 use Rattle.generalised_reduce.specs.declared.halt.Halt.{Halt}
 use Rattle.generalised_reduce.specs.declared.halt.Halt.TheVariants as halts
 
@@ -59,6 +63,30 @@ gauges_pushed p rows gauges x last shown i d lt =
 
 -- ---- states
 
+-- the identity is narrow
+narrow_zeros : (n : ℕ) → All IsNarrow (zeros integers n)
+narrow_zeros zero = All-nil IsNarrow
+narrow_zeros (suc n) = All-cons IsNarrow (pos 0) (zeros integers n) (lit< tt) (narrow_zeros n)
+
+narrow_shifted : (rows : List (List ℤ)) → AreNarrow rows → AreNarrow (map (λ row. pos 0 ∷ row) rows)
+narrow_shifted [] h = All-nil (λ row. All IsNarrow row)
+narrow_shifted (row ∷ rows) h = All-cons (λ r. All IsNarrow r) (pos 0 ∷ row) (map (λ r. pos 0 ∷ r) rows) (All-cons IsNarrow (pos 0) row (lit< tt) (h 0 [] (omega arith))) (narrow_shifted rows (λ i d lt. h (suc i) d (omega arith)))
+
+narrow_identity : (n : ℕ) → AreNarrow (identity n)
+narrow_identity zero = All-nil (λ row. All IsNarrow row)
+narrow_identity (suc n) = All-cons (λ r. All IsNarrow r) (pos 1 ∷ zeros integers n) (map (λ row. pos 0 ∷ row) (identity n)) (All-cons IsNarrow (pos 1) (zeros integers n) (lit< tt) (narrow_zeros n)) (narrow_shifted (identity n) (narrow_identity n))
+
+-- before the first move
+pub stands_begun : (p : Polytope) (m : Matrices) (gauges : List Gauge) (moves : List Step) (swaps : ℕ) → m ≡ unit_vectors p.coordinates → gauges ≡ [] → moves ≡ [] → swaps ≡ 0 → Stands p m gauges moves swaps
+stands_begun p m gauges moves swaps is none_yet no_moves no_swaps = record {
+  fits = record { inverse = subst (AreInverse p.coordinates) (sym is) (AreInverse-identity p.coordinates); narrow = subst (λ (n : Matrices). AreNarrow n.u) (sym is) (narrow_identity p.coordinates) };
+  made = subst (λ l. AreMade p l m) (sym no_moves) (sym is);
+  counted = ap swaps_in no_moves ∙ sym no_swaps;
+  limit = omega (arith, no_swaps);
+  few = omega (arith, ap length none_yet);
+  shown = λ i d lt. absurd (omega (arith, ap length none_yet));
+}
+
 -- a gauge more
 pub stands_filled : (p : Polytope) (m : Matrices) (gauges new : List Gauge) (moves : List Step) (swaps : ℕ) (x : Gauge) → Stands p m gauges moves swaps → length gauges < p.coordinates → IsGauge p (take (length gauges) (forms_of m)) (form_at (forms_of m) (length gauges)) x → new ≡ gauges ++ x ∷ [] → Stands p m new moves swaps
 stands_filled p m gauges new moves swaps x s h gauge is = record {
@@ -67,7 +95,7 @@ stands_filled p m gauges new moves swaps x s h gauge is = record {
   counted = s.counted;
   limit = s.limit;
   few = omega (arith, ap length is, length-append gauges (x ∷ []));
-  gauges = subst (AreGauges p (forms_of m)) (sym is) (gauges_pushed p (forms_of m) gauges x gauge s.gauges);
+  shown = subst (AreGauges p (forms_of m)) (sym is) (gauges_pushed p (forms_of m) gauges x gauge s.shown);
 }
 
 -- the narrow rows after a combination
@@ -82,11 +110,11 @@ stands_combined p m new gauges new_gauges moves new_moves swaps k f s inside leg
     let fewer : length (take (suc k) gauges) ≤ suc k = omega (arith, length-take (suc k) gauges) in
     record {
       fits = record { inverse = inverse; narrow = subst (λ (n : Matrices). AreNarrow n.u) (sym is) (narrow_combined m k f s.fits.narrow row) };
-      made = subst (λ l. AreMade p l new) (sym moves_are) (subst (AreMade p (moves ++ Combine (suc k) k f ∷ [])) (sym is) (Leads-push p _ moves m (Combine (suc k) k f) s.made (refl, legal)));
+      made = subst (λ l. AreMade p l new) (sym moves_are) (subst (AreMade p (moves ++ Combine (suc k) k f ∷ [])) (sym is) (Leads-push p (unit_vectors p.coordinates) moves m (Combine (suc k) k f) s.made (refl, legal)));
       counted = ap swaps_in moves_are ∙ swaps_in-combine moves (suc k) k f ∙ s.counted;
       limit = s.limit;
       few = omega (arith, ap length gauges_are);
-      gauges = subst (AreGauges p (forms_of new)) (sym gauges_are) (gauges_kept p (suc k) (forms_of m) (forms_of new) (take (suc k) gauges) front fewer (gauges_taken p (suc k) (forms_of m) gauges s.gauges));
+      shown = subst (AreGauges p (forms_of new)) (sym gauges_are) (gauges_kept p (suc k) (forms_of m) (forms_of new) (take (suc k) gauges) front fewer (gauges_taken p (suc k) (forms_of m) gauges s.shown));
     }
 
 -- the narrow rows after an exchange
@@ -107,11 +135,11 @@ stands_exchanged p m new gauges new_gauges moves new_moves swaps new_swaps k x s
     let last : Q (length (take k gauges)) = subst Q (sym count) (gauge_as p (take k (forms_of m)) (take k (forms_of new)) (form_at (forms_of m) (suc k)) (form_at (forms_of new) k) x (sym front) (sym row) gauge) in
     record {
       fits = record { inverse = inverse; narrow = subst (λ (n : Matrices). AreNarrow n.u) (sym is) (narrow_exchanged m k there s.fits.narrow) };
-      made = subst (λ l. AreMade p l new) (sym moves_are) (subst (AreMade p (moves ++ Swap k ∷ [])) (sym is) (Leads-push p _ moves m (Swap k) s.made legal));
+      made = subst (λ l. AreMade p l new) (sym moves_are) (subst (AreMade p (moves ++ Swap k ∷ [])) (sym is) (Leads-push p (unit_vectors p.coordinates) moves m (Swap k) s.made legal));
       counted = ap swaps_in moves_are ∙ swaps_in-swap moves k ∙ ap suc s.counted ∙ sym swaps_are;
       limit = omega arith;
       few = omega (arith, ap length gauges_are, length-append (take k gauges) (x ∷ []));
-      gauges = subst (AreGauges p (forms_of new)) (sym gauges_are) (gauges_pushed p (forms_of new) (take k gauges) x last (gauges_kept p k (forms_of m) (forms_of new) (take k gauges) front fewer (gauges_taken p k (forms_of m) gauges s.gauges)));
+      shown = subst (AreGauges p (forms_of new)) (sym gauges_are) (gauges_pushed p (forms_of new) (take k gauges) x last (gauges_kept p k (forms_of m) (forms_of new) (take k gauges) front fewer (gauges_taken p k (forms_of m) gauges s.shown)));
     }
 
 -- ---- the next row is least wide
@@ -235,3 +263,8 @@ move_halts p m new moves new_moves k f halts.Wide made legal h =
 move_halts p m new moves new_moves k f halts.NoMemory made legal h = tt
 move_halts p m new moves new_moves k f halts.ManySwaps made legal h = absurd h
 move_halts p m new moves new_moves k f (halts.Lp excuse) made legal h = absurd h
+
+-- ---- sizes
+
+pub most_swaps_small : (n : ℕ) → n ≤ 256 → most_swaps n ≤ 4194304
+most_swaps_small n h = omega (arith, product_le (64 * n) 16384 n 256 (omega arith) h)

@@ -103,10 +103,10 @@ module _ (p : Polytope) (rows : List (List ℚ)) (i : ℕ) (wide : HasWidth p.co
 -- ---- a whole number near a fraction
 
 -- one half
-half : ℚ
+pub half : ℚ
 half = inv_ℚ (whole (pos 2))
 
-two_halves : half +ℚ half ≡ whole (pos 1)
+pub two_halves : half +ℚ half ≡ whole (pos 1)
 unfolding half
 two_halves = double (inv_ℚ (whole (pos 2))) ∙ mul_inv (whole (pos 2)) two
   where
@@ -115,7 +115,7 @@ two_halves = double (inv_ℚ (whole (pos 2))) ∙ mul_inv (whole (pos 2)) two
     two : ¬ (whole (pos 2) ≡ whole (pos 0))
     two e = absurd (omega (arith, ints, Order.le_from_whole (pos 2) (pos 0) (subst (λ z. z ≤ℚ whole (pos 0)) (sym e) (Order.le_refl (whole (pos 0))))))
 
-half_nonneg : none ≤ℚ half
+pub half_nonneg : none ≤ℚ half
 half_nonneg = elim (Order.le_or_lt none half) [ inl h ↦ h | inr below ↦ absurd (no_half below) ]
   where
     no_half : half <ℚ none → ⊥

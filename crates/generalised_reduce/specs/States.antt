@@ -22,7 +22,7 @@ pub record Stands (p : Polytope) (m : Matrices) (gauges : List Gauge) (moves : L
   pub counted : swaps_in moves ≡ swaps
   pub limit : swaps ≤ most_swaps p.coordinates
   pub few : length gauges ≤ p.coordinates
-  pub gauges : AreGauges p (forms_of m) gauges
+  pub shown : AreGauges p (forms_of m) gauges
 
 -- each two neighbours of the first k + 1 rows are reduced
 abbrev pub IsReducedBelow : Polytope → List (List ℚ) → ℕ → Type 0

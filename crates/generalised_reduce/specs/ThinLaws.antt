@@ -64,3 +64,9 @@ module _ (p : Polytope) (m : Matrices) (gauges : List Gauge) (d : Gauge) (rows :
   first_row_thin moves made =
       let columns : HasWidth (length m.u) m.v = subst (λ j. HasWidth j m.v) (sym inverse.height_u) inverse.width_v in
       first_row_within p m p.coordinates size inverse.width_u (Leads-spans p p.coordinates moves m made) many (λ form. Values.length-values form m columns ∙ inverse.height_u) is_size next_size
+
+-- the same, whatever the first gauge is
+pub first_row_of_gauges : (p : Polytope) (m : Matrices) (gauges : List Gauge) (moves : List Step) → 0 < p.coordinates → HasWidth p.coordinates p.rows → AreInverse p.coordinates m → length gauges ≡ p.coordinates → AreGauges p (forms_of m) gauges → IsLovaszScarfReduced p (forms_of m) → AreMade p moves m
+    → IsWithinFactor p (4 ^ (p.coordinates - 1)) (form_at (forms_of m) 0)
+first_row_of_gauges p m [] moves some rows inverse count shown reduced made = absurd (omega arith)
+first_row_of_gauges p m (g ∷ gauges) moves some rows inverse count shown reduced made = first_row_thin p m (g ∷ gauges) g rows inverse count shown reduced moves made

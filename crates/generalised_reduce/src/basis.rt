@@ -46,6 +46,7 @@ pub fn thin(alloc: Global, system: &System, r: usize) -> Result<ThinBasis, ThinS
     ensures narrow { IfOk result (λ b. AreNarrow b.pair.u) }
     ensures stop { IfErr result (ThinStopIs (polytope_of system.now.rows system.now.limits)) }
 {
+    let _size = system.rows.rows();
     let mut reduction = match Reduction::begin(alloc, r) {
         Ok(reduction) => reduction,
         Err(_none) => return Err(ThinStop::NoMemory),

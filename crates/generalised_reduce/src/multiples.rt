@@ -109,36 +109,51 @@ pub(crate) struct Widths {
     pub(crate) width: Frac,
 }
 
+// Row k + 1 as it is, with its gauge under the rows before row k.
+fn unmoved(alloc: Global, system: &System, pair: &Pair, k: usize) -> Result<Kept, Halt>
+    requires ready { IsReady system.now.rows system.now.limits }
+    requires fits { FitsSystem system.now.rows.width pair.now }
+    requires inside { k + 1 < system.now.rows.width }
+    ensures kept { IfOk result (λ none. IsKept (polytope_of system.now.rows system.now.limits) pair.now k none.gauge.value none.factor none.gauge) }
+    ensures width { IfOk result (λ none. IsWidth (polytope_of system.now.rows system.now.limits) (take k (forms_of pair.now)) (form_at (forms_of pair.now) (suc k)) none.gauge.value) }
+    ensures halt { IfErr result (SearchHalts (polytope_of system.now.rows system.now.limits) pair.now) }
+{
+    let gauge = tested(alloc, system, pair, k, 0)?;
+    Ok(Kept { factor: 0, gauge })
+}
+
 // Tests a multiple of row k, and keeps it where it is better.
-fn better(
+fn try_multiple(
     alloc: Global,
     system: &System,
     pair: &Pair,
     k: usize,
     widths: Widths,
-    kept: Kept,
+    kept: &mut Kept,
     factor: i128,
-) -> Result<Kept, Halt>
+) -> Result<(), Halt>
     requires ready { IsReady system.now.rows system.now.limits }
     requires fits { FitsSystem system.now.rows.width pair.now }
     requires inside { k + 1 < system.now.rows.width }
     requires widths { HaveWidths (polytope_of system.now.rows system.now.limits) (forms_of pair.now) k widths.before widths.width }
-    requires kept { IsKept (polytope_of system.now.rows system.now.limits) pair.now k widths.width kept.factor kept.gauge }
+    requires kept { IsKept (polytope_of system.now.rows system.now.limits) pair.now k widths.width kept.old.factor kept.old.gauge }
     requires narrow { nat_abs factor < 2 ^ 127 }
-    ensures kept { IfOk result (λ best. IsKept (polytope_of system.now.rows system.now.limits) pair.now k widths.width best.factor best.gauge) }
-    ensures covers { IfOk result (λ best. Covers (polytope_of system.now.rows system.now.limits) (forms_of pair.now) k best.gauge.value factor) }
-    ensures no_worse { IfOk result (λ best. best.gauge.value ≤ℚ kept.gauge.value) }
+    ensures kept { OnOk result (IsKept (polytope_of system.now.rows system.now.limits) pair.now k widths.width kept.new.factor kept.new.gauge) }
+    ensures covers { OnOk result (Covers (polytope_of system.now.rows system.now.limits) (forms_of pair.now) k kept.new.gauge.value factor) }
+    ensures no_worse { OnOk result (kept.new.gauge.value ≤ℚ kept.old.gauge.value) }
     ensures halt { IfErr result (SearchHalts (polytope_of system.now.rows system.now.limits) pair.now) }
 {
-    if factor == 0 || !may_improve(factor, widths.before, widths.width) {
-        return Ok(kept);
+    let near = may_improve(factor, widths.before, widths.width);
+    if !near {
+        return Ok(());
     }
     let gauge = tested(alloc, system, pair, k, factor)?;
-    if gauge.value < kept.gauge.value {
-        Ok(Kept { factor, gauge })
-    } else {
-        Ok(kept)
+    let best = kept.gauge.value;
+    if best <= gauge.value {
+        return Ok(());
     }
+    *kept = Kept { factor, gauge };
+    Ok(())
 }
 
 // The multiple of row k in the span at which row k + 1 is least wide; none where no other is better.
@@ -160,17 +175,16 @@ fn least_multiple(
     ensures least { IfOk result (λ best. IsLeastMultiple (polytope_of system.now.rows system.now.limits) pair.now k span.low span.high best.factor best.gauge) }
     ensures halt { IfErr result (SearchHalts (polytope_of system.now.rows system.now.limits) pair.now) }
 {
-    let gauge = tested(alloc, system, pair, k, 0)?;
+    let mut best = unmoved(alloc, system, pair, k)?;
     let widths = Widths {
         before,
-        width: gauge.value,
+        width: best.gauge.value,
     };
-    let none = Kept { factor: 0, gauge };
     let mut factor = span.low;
-    let mut best = better(alloc, system, pair, k, widths, none, factor)?;
+    try_multiple(alloc, system, pair, k, widths, &mut best, factor)?;
     while factor < span.high {
         factor += 1;
-        best = better(alloc, system, pair, k, widths, best, factor)?;
+        try_multiple(alloc, system, pair, k, widths, &mut best, factor)?;
     }
     Ok(best)
 }
@@ -197,5 +211,6 @@ pub(crate) fn best_multiple(
 {
     let place = 2 * system.rows.rows() + 2 * k;
     let span = span_at(next.below.items(), place);
-    least_multiple(alloc, system, pair, k, before.value, span)
+    let best = least_multiple(alloc, system, pair, k, before.value, span)?;
+    Ok(best)
 }

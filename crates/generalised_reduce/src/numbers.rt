@@ -45,19 +45,23 @@ pub(crate) fn span_at(weights: &[Frac], place: usize) -> Span
     }
 }
 
-/// Whether a multiple of a row may make the next row less wide: the row has a width, and the multiple's is at most twice that
-/// of the next.
+/// Whether a multiple of a row may make the next row less wide: it is one, the row has a width, and the multiple's is at most
+/// twice that of the next.
 pub(crate) fn may_improve(factor: i128, before: Frac, width: Frac) -> bool
     requires narrow { nat_abs factor < 2 ^ 127 }
     requires before { none ≤ℚ before }
     requires width { none ≤ℚ width }
     ensures yes { OnTrue result ((none <ℚ before) × ((whole (pos (nat_abs factor)) *ℚ before) ≤ℚ (width +ℚ width))) }
-    ensures no { OnFalse result ((before ≤ℚ none) ⊎ ((width +ℚ width) ≤ℚ (whole (pos (nat_abs factor)) *ℚ before))) }
+    ensures no { OnFalse result ((factor ≡ pos 0) ⊎ ((before ≤ℚ none) ⊎ ((width +ℚ width) ≤ℚ (whole (pos (nat_abs factor)) *ℚ before)))) }
 {
+    if factor == 0 {
+        return false;
+    }
     if before.num() <= 0 {
         return false;
     }
-    !is_multiple_below(2, width, factor.unsigned_abs(), before)
+    let far = is_multiple_below(2, width, factor.unsigned_abs(), before);
+    !far
 }
 
 /// Whether a width is below 3/4 of another.

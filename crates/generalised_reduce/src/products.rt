@@ -27,15 +27,14 @@ fn doubled(half: Quotient, divisor: u128) -> Quotient
 {
     let rest = half.rest + half.rest;
     if rest < divisor {
-        Quotient {
+        return Quotient {
             whole: 2 * half.whole,
             rest,
-        }
-    } else {
-        Quotient {
-            whole: 2 * half.whole + 1,
-            rest: rest - divisor,
-        }
+        };
+    }
+    Quotient {
+        whole: 2 * half.whole + 1,
+        rest: rest - divisor,
     }
 }
 
@@ -50,15 +49,14 @@ fn increased(quotient: Quotient, number: u128, divisor: u128) -> Quotient
 {
     let rest = quotient.rest + number;
     if rest < divisor {
-        Quotient {
+        return Quotient {
             whole: quotient.whole,
             rest,
-        }
-    } else {
-        Quotient {
-            whole: quotient.whole + 1,
-            rest: rest - divisor,
-        }
+        };
+    }
+    Quotient {
+        whole: quotient.whole + 1,
+        rest: rest - divisor,
     }
 }
 
@@ -76,10 +74,9 @@ fn divided_product(times: u128, number: u128, divisor: u128) -> Quotient
     }
     let double = doubled(divided_product(times / 2, number, divisor), divisor);
     if times % 2 == 0 {
-        double
-    } else {
-        increased(double, number, divisor)
+        return double;
     }
+    increased(double, number, divisor)
 }
 
 // A multiple of a fraction: a whole number in two digits, and what remains over the denominator.
@@ -120,11 +117,10 @@ fn is_product_below(a: u128, b: u128, c: u128, d: u128) -> bool
 {
     let left = divided_product(a, b, BASE);
     let right = divided_product(c, d, BASE);
-    if left.whole == right.whole {
-        left.rest < right.rest
-    } else {
-        left.whole < right.whole
+    if left.whole != right.whole {
+        return left.whole < right.whole;
     }
+    left.rest < right.rest
 }
 
 // Whether a multiple of a fraction is below another, by their parts.

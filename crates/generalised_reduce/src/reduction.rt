@@ -1,5 +1,5 @@
 //! The reduction at hand.
-ghost use Rattle.std.specs.Prelude.{◌≡◌, ◌+◌, ◌*◌, ◌<◌, ◌≤◌, ◌++◌, [], ◌∷◌, suc, length, take, IfErr, IfOk, OnOk};
+ghost use Rattle.std.specs.Prelude.{◌≡◌, ◌+◌, ◌<◌, ◌≤◌, ◌^◌, ◌++◌, [], ◌∷◌, suc, length, take, IfErr, IfOk, OnOk};
 
 ghost use Rattle.norm_gauge.specs.Widths.{polytope_of};
 ghost use Rattle.unimodular_pair.specs.Gathering.{unit_vectors};
@@ -92,7 +92,7 @@ impl Reduction {
     fn exchange(&mut self, k: usize, gauge: Gauge) -> Result<(), Halt>
         requires few { length self.old.pair.u ≤ 256 }
         requires inside { k + 1 < length self.old.pair.u }
-        requires room { self.old.swaps < 64 * length self.old.pair.u * length self.old.pair.u }
+        requires room { self.old.swaps < 2 ^ 32 }
         ensures pair { OnOk result (self.new.pair ≡ exchanged k (suc k) self.old.pair) }
         ensures gauges { OnOk result (self.new.gauges.items ≡ take k self.old.gauges.items ++ gauge ∷ []) }
         ensures moves { OnOk result (self.new.moves ≡ self.old.moves ++ Swap k ∷ []) }
@@ -130,7 +130,6 @@ impl Reduction {
             &self.gauges[k + 1],
         )?;
         if factor != 0 {
-            let _size = self.pair.u();
             self.combine(k, factor)?;
         }
         Ok(gauge)
@@ -150,7 +149,8 @@ impl Reduction {
         ensures halt { IfErr result (HaltsAt (polytope_of system.now.rows system.now.limits) self.new.moves self.new.pair) }
     {
         let gauge = self.improve(alloc, system, k)?;
-        if !is_thinner(gauge.value, self.gauges[k].value) {
+        let thinner = is_thinner(gauge.value, self.gauges[k].value);
+        if !thinner {
             return Ok(k + 1);
         }
         let size = self.pair.u().rows();
