@@ -136,6 +136,15 @@ searched_first p m k v width low high factor gauge widths kept covers order = re
   within = order;
 }
 
+at_next : (j at next : ℤ) → next ≡ at +ℤ pos 1 → at <ℤ j → j ≤ℤ next → j ≡ next
+at_next j at next is h k = omega (arith, ints)
+
+beyond : (j next : ℤ) → j ≤ℤ next → next <ℤ j → ⊥
+beyond j next u k = omega (arith, ints)
+
+place : (at next : ℤ) → next ≡ at +ℤ pos 1 → (j : ℤ) → (j ≡ next) ⊎ (j ≤ℤ next → j ≤ℤ at)
+place at next is j = elim (Z.le_or_lt j at) [ inl h ↦ inr (λ u. h) | inr h ↦ elim (Z.le_or_lt j next) [ inl k ↦ inl (at_next j at next is h k) | inr k ↦ inr (λ u. absurd (beyond j next u k)) ] ]
+
 -- one more
 pub searched_more : (p : Polytope) (m : Matrices) (k : ℕ) (v width : ℚ) (low high at next factor new_factor : ℤ) (gauge new : Gauge) → IsSearched p m k v width low high at factor gauge → next ≡ at +ℤ pos 1 → next ≤ℤ high → IsKept p m k width new_factor new → Covers p (forms_of m) k new.value next
     → new.value ≤ℚ gauge.value → IsSearched p m k v width low high next new_factor new
@@ -148,17 +157,10 @@ searched_more p m k v width low high at next factor new_factor gauge new before 
 }
   where
     by_place : (j : ℤ) → low ≤ℤ j → j ≤ℤ next → Covers p (forms_of m) k new.value j
-    by_place j l u = elim (place j) [
+    by_place j l u = elim (place at next is j) [
         inl here ↦ subst (Covers p (forms_of m) k new.value) (sym here) covers
       | inr earlier ↦ λ bound h. Order.le_trans new.value gauge.value bound le (before.covered j l (earlier u) bound h)
       ]
-      where
-        place : (j : ℤ) → (j ≡ next) ⊎ (j ≤ℤ next → j ≤ℤ at)
-        place j = elim (Z.le_or_lt j at) [ inl h ↦ inr (λ u. h) | inr h ↦ elim (Z.le_or_lt j next) [ inl k ↦ inl (at_next j at next is h k) | inr k ↦ inr (λ u. absurd (beyond j next u k)) ] ]
-        at_next : (j at next : ℤ) → next ≡ at +ℤ pos 1 → at <ℤ j → j ≤ℤ next → j ≡ next
-        at_next j at next is h k = omega (arith, ints)
-        beyond : (j next : ℤ) → j ≤ℤ next → next <ℤ j → ⊥
-        beyond j next u k = omega (arith, ints)
 
 -- at the upper end
 pub searched_all : (p : Polytope) (m : Matrices) (k : ℕ) (v width : ℚ) (low high at factor : ℤ) (gauge : Gauge) → IsSearched p m k v width low high at factor gauge → high ≤ℤ at → IsLeastMultiple p m k low high factor gauge

@@ -1,42 +1,29 @@
 -- What the tests on two neighbouring widths use.
-use Rattle.std.proofs.Common.{◌≡◌, ℕ, suc, ◌+◌, ◌<◌, ℤ, pos, nat_abs, ◌+ℤ◌, ◌-ℤ◌, ◌≤ℤ◌, neg_ℤ, Bool, true, false, List, length, get_or, refl, sym, ap, ap₂, subst, ◌∙◌, ◌⊎◌, inl, inr, arith, is_lt, is_le}
+use Rattle.std.proofs.Common.{◌≡◌, ℕ, suc, ◌+◌, ◌<◌, ℤ, pos, ◌+ℤ◌, ◌-ℤ◌, ◌≤ℤ◌, neg_ℤ, Bool, true, false, not, List, [], ◌∷◌, refl, sym, ap, subst, ◌∙◌, ◌⊎◌, inl, inr, arith}
 use Rattle.std.specs.Bool.{OnTrue, OnFalse}
 use Rattle.std.proofs.lemmas.Int.{ints}
-use Rattle.std.proofs.lemmas.Bool.{OnTrue_from, OnFalse_from}
-use Rattle.exact_math.specs.Rational.{ℚ, whole, neg_ℚ, ◌+ℚ◌, ◌-ℚ◌, ◌*ℚ◌, ◌≤ℚ◌, ◌<ℚ◌, rational_cmp, floor, ceil}
+use Rattle.exact_math.specs.Rational.{ℚ, whole, neg_ℚ, ◌+ℚ◌, ◌-ℚ◌, ◌*ℚ◌, ◌≤ℚ◌, ◌<ℚ◌, floor, ceil}
 use Rattle.exact_math.specs.RationalFloor.{floor_le, le_floor, le_ceil}
 use Rattle.exact_math.specs.RationalOrder as Order
 use Rattle.exact_math.specs.RationalRing.{rationals, whole_add}
-use Rattle.exact_math.specs.RationalTests.{lt_true, lt_false, le_true, le_false}
+use Rattle.exact_math.specs.RingSolver.{ring, reads}
 use Rattle.exact_math.specs.RingLaws as Laws
-use Rattle.generalised_reduce.specs.DifferenceLaws.{none, le_as}
-
--- ---- the condition of a swap
-
-module _ (b : Bool) (l r w v c d : ℚ) (test : b ≡ is_lt (rational_cmp l r)) (left : l ≡ w *ℚ c) (four : c ≡ whole (pos 4)) (right : r ≡ v *ℚ d) (three : d ≡ whole (pos 3)) where
-  left_is : l ≡ whole (pos 4) *ℚ w
-  left_is = left ∙ ap (λ k. w *ℚ k) four ∙ rationals.mul_comm w (whole (pos 4))
-
-  right_is : r ≡ whole (pos 3) *ℚ v
-  right_is = right ∙ ap (λ k. v *ℚ k) three ∙ rationals.mul_comm v (whole (pos 3))
-
-  pub thinner_yes : OnTrue b ((whole (pos 4) *ℚ w) <ℚ (whole (pos 3) *ℚ v))
-  thinner_yes = OnTrue_from b _ (λ t. subst (λ p. p <ℚ (whole (pos 3) *ℚ v)) left_is (subst (λ q. l <ℚ q) right_is (lt_true l r (sym test ∙ t))))
-
-  pub thinner_no : OnFalse b ((whole (pos 3) *ℚ v) ≤ℚ (whole (pos 4) *ℚ w))
-  thinner_no = OnFalse_from b _ (λ t. le_as r l (whole (pos 3) *ℚ v) (whole (pos 4) *ℚ w) right_is left_is (lt_false l r (sym test ∙ t)))
+use Rattle.generalised_reduce.specs.DifferenceLaws.{none}
 
 -- ---- the bound of a multiple
 
-module _ (b : Bool) (reach limit before width size : ℚ) (factor : ℤ) (test : b ≡ is_le (rational_cmp reach limit)) (some : none <ℚ before) (left : reach ≡ before *ℚ size) (whole_size : size ≡ whole (pos (nat_abs factor))) (right : limit ≡ width +ℚ width) where
-  reach_is : reach ≡ whole (pos (nat_abs factor)) *ℚ before
-  reach_is = left ∙ ap (λ k. before *ℚ k) whole_size ∙ rationals.mul_comm before (whole (pos (nat_abs factor)))
+twice : (w : ℚ) → whole (pos 2) *ℚ w ≡ w +ℚ w
+twice w = ring rationals (w ∷ []) (search reads depth 30) (search reads depth 30) refl
 
-  pub improves_yes : OnTrue b ((none <ℚ before) × ((whole (pos (nat_abs factor)) *ℚ before) ≤ℚ (width +ℚ width)))
-  improves_yes = OnTrue_from b _ (λ t. (some, le_as reach limit (whole (pos (nat_abs factor)) *ℚ before) (width +ℚ width) reach_is right (le_true reach limit (sym test ∙ t))))
+-- where twice the width is not below the multiple's, it may improve
+pub improves_yes : (far : Bool) (before width : ℚ) (n : ℕ) → none <ℚ before → OnFalse far ((whole (pos n) *ℚ before) ≤ℚ (whole (pos 2) *ℚ width)) → OnTrue (not far) ((none <ℚ before) × ((whole (pos n) *ℚ before) ≤ℚ (width +ℚ width)))
+improves_yes true before width n some h = tt
+improves_yes false before width n some h = (some, subst (λ q. (whole (pos n) *ℚ before) ≤ℚ q) (twice width) h)
 
-  pub improves_no : OnFalse b ((before ≤ℚ none) ⊎ ((width +ℚ width) ≤ℚ (whole (pos (nat_abs factor)) *ℚ before)))
-  improves_no = OnFalse_from b _ (λ t. inr (le_as limit reach (width +ℚ width) (whole (pos (nat_abs factor)) *ℚ before) right reach_is (Order.le_of_lt limit reach (le_false reach limit (sym test ∙ t)))))
+-- and else not
+pub improves_no : (far : Bool) (before width : ℚ) (n : ℕ) (P : Type 0) → OnTrue far ((whole (pos 2) *ℚ width) <ℚ (whole (pos n) *ℚ before)) → OnFalse (not far) (P ⊎ ((before ≤ℚ none) ⊎ ((width +ℚ width) ≤ℚ (whole (pos n) *ℚ before))))
+improves_no true before width n P h = inr (inr (Order.le_of_lt (width +ℚ width) (whole (pos n) *ℚ before) (subst (λ q. q <ℚ (whole (pos n) *ℚ before)) (twice width) h)))
+improves_no false before width n P h = tt
 
 -- ---- whole numbers round a difference
 

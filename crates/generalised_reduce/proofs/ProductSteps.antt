@@ -1,7 +1,8 @@
 -- What the exact comparison of multiples uses.
-use Rattle.std.proofs.Common.{◌≡◌, ◌↔◌, ⊎_elim, ℕ, zero, suc, ◌+◌, ◌*◌, ◌/◌, ◌%◌, ◌<◌, ◌≤◌, ℤ, pos, negsuc, nat_abs, ◌*ℤ◌, ◌≤ℤ◌, ◌<ℤ◌, refl, sym, ap, ap₂, subst, ◌∙◌, arith}
-use Rattle.std.proofs.lemmas.Bool.{cases_lt}
+use Rattle.std.proofs.Common.{◌≡◌, ◌↔◌, ⊎_elim, ℕ, zero, suc, ◌+◌, ◌*◌, ◌/◌, ◌%◌, ◌<◌, ◌≤◌, ℤ, pos, negsuc, nat_abs, ◌*ℤ◌, ◌≤ℤ◌, ◌<ℤ◌, Bool, IsTrue, refl, sym, ap, ap₂, subst, ◌∙◌, arith}
+use Rattle.std.proofs.lemmas.Bool.{cases_lt, lt-ltb, ltb-true}
 use Rattle.std.proofs.lemmas.Int.{ints}
+use Rattle.std.proofs.Math.Dec.{ltb}
 use Rattle.std.proofs.Math.Nat.{mul_assoc, mul_comm, mul-le-mul, suc-mul, div-add-mod}
 use Rattle.exact_math.specs.Rational.{ℚ, whole, ◌*ℚ◌, ◌≤ℚ◌, ◌<ℚ◌}
 use Rattle.exact_math.specs.RationalCode.{den_pos}
@@ -52,8 +53,8 @@ odd_value t n v e h =
 
 -- ---- a multiple of a fraction
 
-pub multiple_value : (t s d b high low over under rest : ℕ) → (over * b + low) ≡ t * (s / d) → under * d + rest ≡ t * (s % d) → ((over + (low + under) / b) * b + (low + under) % b) * d + rest ≡ t * s
-multiple_value t s d b high low over under rest first second =
+pub multiple_value : (t s d b low over under rest : ℕ) → (over * b + low) ≡ t * (s / d) → under * d + rest ≡ t * (s % d) → ((over + (low + under) / b) * b + (low + under) % b) * d + rest ≡ t * s
+multiple_value t s d b low over under rest first second =
     let digits : b * ((low + under) / b) + (low + under) % b ≡ low + under = div-add-mod (low + under) b in
     let left : (over + (low + under) / b) * b + (low + under) % b ≡ t * (s / d) + under = omega (arith, add_mul over ((low + under) / b) b, mul_comm ((low + under) / b) b) in
     let parts : d * (s / d) + s % d ≡ s = div-add-mod s d in
@@ -111,3 +112,48 @@ positive_den p = let h : 0 < p.den = den_pos p in omega arith
 pub multiple_lt : (t u : ℕ) (p q : ℚ) → none ≤ℚ p → none ≤ℚ q → (t * nat_abs p.num) * q.den < (u * nat_abs q.num) * p.den → (whole (pos t) *ℚ p) <ℚ (whole (pos u) *ℚ q)
 unfolding ◌*ℚ◌ whole
 multiple_lt t u p q hp hq h = Order.lt_frac (pos t *ℤ p.num) (pos u *ℤ q.num) (1 * p.den) (1 * q.den) (positive_den p) (positive_den q) (cross t u p q hp hq h)
+
+-- ---- by digits
+
+wider : (h k low other b : ℕ) → low < b → h < k → h * b + low < k * b + other
+wider h k low other b first lt =
+    let more : suc h * b ≤ k * b = times_le (suc h) k b b (omega arith) (omega arith) in
+    omega (arith, suc-mul h b)
+
+-- the first digits differ
+pub by_high : (h k low other r s d e b : ℕ) → low < b → other < b → r < d → s < e → (h ≡ k → ⊥) → IsTrue (ltb h k) ↔ (((h * b + low) * d + r) * e < ((k * b + other) * e + s) * d)
+by_high h k low other r s d e b fits other_fits first second ne = (
+  λ t. part_below (h * b + low) (k * b + other) r s d e first second (wider h k low other b fits (ltb-true h k t)),
+  λ lt. ⊎_elim
+  (λ (up : h < k). lt-ltb h k up)
+  (λ (down : k ≤ h).
+  let less : k < h = ⊎_elim (λ (x : k < h). x) (λ (y : h ≤ k). absurd (ne (omega arith))) (cases_lt k h) in
+  let back : ((k * b + other) * e + s) * d < ((h * b + low) * d + r) * e = part_below (k * b + other) (h * b + low) s r e d second first (wider k h other low b other_fits less) in
+  absurd (omega arith))
+  (cases_lt h k),
+)
+
+-- the first digits are the same, and the second ones differ
+pub by_low : (h k low other r s d e b : ℕ) → r < d → s < e → h ≡ k → (low ≡ other → ⊥) → IsTrue (ltb low other) ↔ (((h * b + low) * d + r) * e < ((k * b + other) * e + s) * d)
+by_low h k low other r s d e b first second same ne =
+    let heads : h * b ≡ k * b = ap (λ x. x * b) same in (
+      λ t. let lt : low < other = ltb-true low other t in part_below (h * b + low) (k * b + other) r s d e first second (omega arith),
+      λ lt. ⊎_elim
+      (λ (up : low < other). lt-ltb low other up)
+      (λ (down : other ≤ low).
+      let less : other < low = ⊎_elim (λ (x : other < low). x) (λ (y : low ≤ other). absurd (ne (omega arith))) (cases_lt other low) in
+      let back : ((k * b + other) * e + s) * d < ((h * b + low) * d + r) * e = part_below (k * b + other) (h * b + low) s r e d second first (omega arith) in
+      absurd (omega arith))
+      (cases_lt low other),
+    )
+
+-- the whole numbers are the same
+same_whole : (w r s d e : ℕ) → (r * e < s * d) ↔ ((w * d + r) * e < (w * e + s) * d)
+same_whole w r s d e = (λ lt. omega arith, λ lt. omega arith)
+
+pub by_rest : (t : Bool) (h k low other r s d e b : ℕ) → h ≡ k → low ≡ other → IsTrue t ↔ (r * e < s * d) → IsTrue t ↔ (((h * b + low) * d + r) * e < ((k * b + other) * e + s) * d)
+by_rest t h k low other r s d e b same_high same_low test =
+    let P : ℕ → ℕ → Type 0 = λ x y. IsTrue t ↔ (((h * b + low) * d + r) * e < ((x * b + y) * e + s) * d) in
+    let both = same_whole (h * b + low) r s d e in
+    let here : P h low = (λ x. both.0 (test.0 x), λ y. test.1 (both.1 y)) in
+    subst (λ y. P k y) same_low (subst (λ x. P x low) same_high here)

@@ -237,16 +237,17 @@ all_reduced p m k inverse h reduced i lt = reduced i (omega (arith, length-map m
 pub falls_on : (n swaps k : ℕ) → k < n → progress n swaps (k + 1) < progress n swaps k
 falls_on n swaps k h = omega arith
 
+one_fewer : (q w : ℕ) → suc q * w ≡ q * w + w
+one_fewer q w = omega arith
+
+drop_one : (s n swaps k : ℕ) → swaps < s → k < n → (s - suc swaps) * (n + 2) + (n - (k - 1)) < (s - swaps) * (n + 2) + (n - k)
+drop_one s n swaps k room h =
+    let less : s - swaps ≡ suc (s - suc swaps) = omega arith in
+    let more : (s - swaps) * (n + 2) ≡ (s - suc swaps) * (n + 2) + (n + 2) = ap (λ q. q * (n + 2)) less ∙ one_fewer (s - suc swaps) (n + 2) in
+    omega arith
+
 pub falls_back : (n swaps k : ℕ) → swaps < most_swaps n → k < n → progress n (suc swaps) (k - 1) < progress n swaps k
 falls_back n swaps k room h = drop_one (most_swaps n) n swaps k room h
-  where
-    drop_one : (s n swaps k : ℕ) → swaps < s → k < n → (s - suc swaps) * (n + 2) + (n - (k - 1)) < (s - swaps) * (n + 2) + (n - k)
-    drop_one s n swaps k room h =
-        let less : s - swaps ≡ suc (s - suc swaps) = omega arith in
-        let more : (s - swaps) * (n + 2) ≡ (s - suc swaps) * (n + 2) + (n + 2) = ap (λ q. q * (n + 2)) less ∙ next (s - suc swaps) (n + 2) in
-        omega arith
-    next : (q w : ℕ) → suc q * w ≡ q * w + w
-    next q w = omega arith
 
 -- ---- halts
 

@@ -107,7 +107,7 @@ module _ (p : Polytope) (fixed : List (List ℚ)) (row form weights high low : L
       gone value more less d = ring rationals (value ∷ more ∷ less ∷ d ∷ []) (search reads depth 40) (search reads depth 40) refl
 
 -- the weights of a gauge under rows
-weights_shown : (p : Polytope) (fixed : List (List ℚ)) (form : List ℚ) (g : Gauge) → 0 < length fixed → WeightsShow p fixed form g → IsLeastAt (pair_system p fixed) (pair_form form) (g.high ++ g.low) (neg_ℚ g.value) g.below
+pub weights_shown : (p : Polytope) (fixed : List (List ℚ)) (form : List ℚ) (g : Gauge) → 0 < length fixed → WeightsShow p fixed form g → IsLeastAt (pair_system p fixed) (pair_form form) (g.high ++ g.low) (neg_ℚ g.value) g.below
 weights_shown p [] form g some h = absurd (omega arith)
 weights_shown p (row ∷ fixed) form g some h = h.0
 

@@ -156,6 +156,36 @@ fn try_multiple(
     Ok(())
 }
 
+// Tries the multiples of row k in the span.
+fn search_span(
+    alloc: Global,
+    system: &System,
+    pair: &Pair,
+    k: usize,
+    widths: Widths,
+    kept: &mut Kept,
+    span: Span,
+) -> Result<(), Halt>
+    requires ready { IsReady system.now.rows system.now.limits }
+    requires fits { FitsSystem system.now.rows.width pair.now }
+    requires inside { k + 1 < system.now.rows.width }
+    requires widths { HaveWidths (polytope_of system.now.rows system.now.limits) (forms_of pair.now) k widths.before widths.width }
+    requires kept { IsKept (polytope_of system.now.rows system.now.limits) pair.now k widths.width kept.old.factor kept.old.gauge }
+    requires order { span.low ≤ℤ span.high }
+    requires low_narrow { nat_abs span.low < 2 ^ 127 }
+    requires high_narrow { nat_abs span.high < 2 ^ 127 }
+    ensures least { OnOk result (IsLeastMultiple (polytope_of system.now.rows system.now.limits) pair.now k span.low span.high kept.new.factor kept.new.gauge) }
+    ensures halt { IfErr result (SearchHalts (polytope_of system.now.rows system.now.limits) pair.now) }
+{
+    let mut factor = span.low;
+    try_multiple(alloc, system, pair, k, widths, kept, factor)?;
+    while factor < span.high {
+        factor += 1;
+        try_multiple(alloc, system, pair, k, widths, kept, factor)?;
+    }
+    Ok(())
+}
+
 // The multiple of row k in the span at which row k + 1 is least wide; none where no other is better.
 fn least_multiple(
     alloc: Global,
@@ -176,16 +206,9 @@ fn least_multiple(
     ensures halt { IfErr result (SearchHalts (polytope_of system.now.rows system.now.limits) pair.now) }
 {
     let mut best = unmoved(alloc, system, pair, k)?;
-    let widths = Widths {
-        before,
-        width: best.gauge.value,
-    };
-    let mut factor = span.low;
-    try_multiple(alloc, system, pair, k, widths, &mut best, factor)?;
-    while factor < span.high {
-        factor += 1;
-        try_multiple(alloc, system, pair, k, widths, &mut best, factor)?;
-    }
+    let width = best.gauge.value;
+    let widths = Widths { before, width };
+    search_span(alloc, system, pair, k, widths, &mut best, span)?;
     Ok(best)
 }
 

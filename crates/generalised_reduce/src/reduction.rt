@@ -129,9 +129,10 @@ impl Reduction {
             &self.gauges[k],
             &self.gauges[k + 1],
         )?;
-        if factor != 0 {
-            self.combine(k, factor)?;
+        if factor == 0 {
+            return Ok(gauge);
         }
+        self.combine(k, factor)?;
         Ok(gauge)
     }
 
