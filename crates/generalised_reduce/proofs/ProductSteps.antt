@@ -1,6 +1,7 @@
 -- What the exact comparison of multiples uses.
-use Rattle.std.proofs.Common.{◌≡◌, ◌↔◌, ⊎_elim, ℕ, zero, suc, ◌+◌, ◌*◌, ◌/◌, ◌%◌, ◌<◌, ◌≤◌, ℤ, pos, negsuc, nat_abs, ◌*ℤ◌, ◌≤ℤ◌, ◌<ℤ◌, Bool, IsTrue, refl, sym, ap, ap₂, subst, ◌∙◌, arith}
-use Rattle.std.proofs.lemmas.Bool.{cases_lt, lt-ltb, ltb-true}
+use Rattle.std.proofs.Common.{◌≡◌, ◌↔◌, ⊎_elim, ℕ, zero, suc, ◌+◌, ◌*◌, ◌/◌, ◌%◌, ◌<◌, ◌≤◌, ℤ, pos, negsuc, nat_abs, ◌*ℤ◌, ◌≤ℤ◌, ◌<ℤ◌, Bool, true, false, IsTrue, inl, inr, refl, sym, ap, ap₂, subst, ◌∙◌, arith}
+use Rattle.std.specs.Bool.{OnFalse, OnTrue}
+use Rattle.std.proofs.lemmas.Bool.{OnFalse_from, OnTrue_from, cases_lt, lt-ltb, ltb-true}
 use Rattle.std.proofs.lemmas.Int.{ints}
 use Rattle.std.proofs.Math.Dec.{ltb}
 use Rattle.std.proofs.Math.Nat.{mul_assoc, mul_comm, mul-le-mul, suc-mul, div-add-mod}
@@ -113,6 +114,19 @@ pub multiple_lt : (t u : ℕ) (p q : ℚ) → none ≤ℚ p → none ≤ℚ q �
 unfolding ◌*ℚ◌ whole
 multiple_lt t u p q hp hq h = Order.lt_frac (pos t *ℤ p.num) (pos u *ℤ q.num) (1 * p.den) (1 * q.den) (positive_den p) (positive_den q) (cross t u p q hp hq h)
 
+-- and the other way round
+cross_back : (t u : ℕ) (p q : ℚ) → none ≤ℚ p → none ≤ℚ q → ((pos t *ℤ p.num) *ℤ pos (1 * q.den)) <ℤ ((pos u *ℤ q.num) *ℤ pos (1 * p.den)) → (t * nat_abs p.num) * q.den < (u * nat_abs q.num) * p.den
+cross_back t u p q hp hq h =
+    let P : ℤ → ℤ → Type 0 = λ a b. ((pos t *ℤ a) *ℤ pos (1 * q.den)) <ℤ ((pos u *ℤ b) *ℤ pos (1 * p.den)) in
+    whole_back (t * nat_abs p.num) (u * nat_abs q.num) p.den q.den (subst (λ a. P a (pos (nat_abs q.num))) (size_of p hp) (subst (λ b. P p.num b) (size_of q hq) h))
+  where
+    whole_back : (a b c d : ℕ) → pos (a * (1 * d)) <ℤ pos (b * (1 * c)) → a * d < b * c
+    whole_back a b c d h = let one_d : 1 * d ≡ d = omega arith in let one_c : 1 * c ≡ c = omega arith in omega (arith, ints, h, ap (λ k. a * k) one_d, ap (λ k. b * k) one_c)
+
+pub lt_multiple : (t u : ℕ) (p q : ℚ) → none ≤ℚ p → none ≤ℚ q → (whole (pos t) *ℚ p) <ℚ (whole (pos u) *ℚ q) → (t * nat_abs p.num) * q.den < (u * nat_abs q.num) * p.den
+unfolding ◌*ℚ◌ whole
+lt_multiple t u p q hp hq h = cross_back t u p q hp hq (Order.cross_from_lt (pos t *ℤ p.num) (pos u *ℤ q.num) (1 * p.den) (1 * q.den) (positive_den p) (positive_den q) h)
+
 -- ---- by digits
 
 wider : (h k low other b : ℕ) → low < b → h < k → h * b + low < k * b + other
@@ -157,3 +171,23 @@ by_rest t h k low other r s d e b same_high same_low test =
     let both = same_whole (h * b + low) r s d e in
     let here : P h low = (λ x. both.0 (test.0 x), λ y. test.1 (both.1 y)) in
     subst (λ y. P k y) same_low (subst (λ x. P x low) same_high here)
+
+-- what the test of the products says of the fractions
+module _ (r : Bool) (t u x y d e s other_s : ℕ) (p q : ℚ) (hp : none ≤ℚ p) (hq : none ≤ℚ q) (test : IsTrue r ↔ (x * e < y * d)) (first : x ≡ t * s) (second : y ≡ u * other_s) (size : s ≡ nat_abs p.num) (other_size : other_s ≡ nat_abs q.num) (den : d ≡ p.den) (other_den : e ≡ q.den) where
+  left_side : x * e ≡ (t * nat_abs p.num) * q.den
+  left_side = ap₂ (λ a b. a * b) (first ∙ ap (λ k. t * k) size) other_den
+
+  right_side : y * d ≡ (u * nat_abs q.num) * p.den
+  right_side = ap₂ (λ a b. a * b) (second ∙ ap (λ k. u * k) other_size) den
+
+  pub test_yes : OnTrue r ((whole (pos t) *ℚ p) <ℚ (whole (pos u) *ℚ q))
+  test_yes = OnTrue_from r _ (λ yes. let lt : x * e < y * d = test.0 yes in multiple_lt t u p q hp hq (omega (arith, left_side, right_side)))
+
+  pub test_no : OnFalse r ((whole (pos u) *ℚ q) ≤ℚ (whole (pos t) *ℚ p))
+  test_no = OnFalse_from r _ (λ no. elim (Order.le_or_lt (whole (pos u) *ℚ q) (whole (pos t) *ℚ p)) [
+      inl h ↦ h
+    | inr less ↦ absurd (refused no (lt_multiple t u p q hp hq less))
+    ])
+    where
+      refused : r ≡ false → (t * nat_abs p.num) * q.den < (u * nat_abs q.num) * p.den → ⊥
+      refused no lt = let yes : r ≡ true = test.1 (omega (arith, left_side, right_side)) in cc

@@ -102,6 +102,79 @@ pub(crate) struct Kept {
     pub(crate) gauge: Gauge,
 }
 
+impl Kept {
+    // The width at the multiple.
+    fn width(&self) -> Frac
+        ensures { result ≡ self.now.gauge.value }
+    {
+        self.gauge.value
+    }
+
+    // Tests a multiple of row k, and keeps it where it is better.
+    fn try_multiple(
+        &mut self,
+        alloc: Global,
+        system: &System,
+        pair: &Pair,
+        k: usize,
+        widths: &Widths,
+        factor: i128,
+    ) -> Result<(), Halt>
+        requires ready { IsReady system.now.rows system.now.limits }
+        requires fits { FitsSystem system.now.rows.width pair.now }
+        requires inside { k + 1 < system.now.rows.width }
+        requires widths { HaveWidths (polytope_of system.now.rows system.now.limits) (forms_of pair.now) k widths.now.before widths.now.width }
+        requires kept { IsKept (polytope_of system.now.rows system.now.limits) pair.now k widths.now.width self.old.factor self.old.gauge }
+        requires narrow { nat_abs factor < 2 ^ 127 }
+        ensures kept { OnOk result (IsKept (polytope_of system.now.rows system.now.limits) pair.now k widths.now.width self.new.factor self.new.gauge) }
+        ensures covers { OnOk result (Covers (polytope_of system.now.rows system.now.limits) (forms_of pair.now) k self.new.gauge.value factor) }
+        ensures no_worse { OnOk result (self.new.gauge.value ≤ℚ self.old.gauge.value) }
+        ensures halt { IfErr result (SearchHalts (polytope_of system.now.rows system.now.limits) pair.now) }
+    {
+        let near = may_improve(factor, widths.before, widths.width);
+        if !near {
+            return Ok(());
+        }
+        let gauge = tested(alloc, system, pair, k, factor)?;
+        let best = self.gauge.value;
+        if best <= gauge.value {
+            return Ok(());
+        }
+        *self = Kept { factor, gauge };
+        Ok(())
+    }
+
+    // Tries the multiples of row k in the span.
+    fn search_span(
+        &mut self,
+        alloc: Global,
+        system: &System,
+        pair: &Pair,
+        k: usize,
+        widths: &Widths,
+        span: Span,
+    ) -> Result<(), Halt>
+        requires ready { IsReady system.now.rows system.now.limits }
+        requires fits { FitsSystem system.now.rows.width pair.now }
+        requires inside { k + 1 < system.now.rows.width }
+        requires widths { HaveWidths (polytope_of system.now.rows system.now.limits) (forms_of pair.now) k widths.now.before widths.now.width }
+        requires kept { IsKept (polytope_of system.now.rows system.now.limits) pair.now k widths.now.width self.old.factor self.old.gauge }
+        requires order { span.low ≤ℤ span.high }
+        requires low_narrow { nat_abs span.low < 2 ^ 127 }
+        requires high_narrow { nat_abs span.high < 2 ^ 127 }
+        ensures least { OnOk result (IsLeastMultiple (polytope_of system.now.rows system.now.limits) pair.now k span.low span.high self.new.factor self.new.gauge) }
+        ensures halt { IfErr result (SearchHalts (polytope_of system.now.rows system.now.limits) pair.now) }
+    {
+        let mut factor = span.low;
+        self.try_multiple(alloc, system, pair, k, widths, factor)?;
+        while factor < span.high {
+            factor += 1;
+            self.try_multiple(alloc, system, pair, k, widths, factor)?;
+        }
+        Ok(())
+    }
+}
+
 /// The widths of two neighbours under the rows before them.
 #[derive(Clone, Copy, Debug)]
 pub(crate) struct Widths {
@@ -120,70 +193,6 @@ fn unmoved(alloc: Global, system: &System, pair: &Pair, k: usize) -> Result<Kept
 {
     let gauge = tested(alloc, system, pair, k, 0)?;
     Ok(Kept { factor: 0, gauge })
-}
-
-// Tests a multiple of row k, and keeps it where it is better.
-fn try_multiple(
-    alloc: Global,
-    system: &System,
-    pair: &Pair,
-    k: usize,
-    widths: Widths,
-    kept: &mut Kept,
-    factor: i128,
-) -> Result<(), Halt>
-    requires ready { IsReady system.now.rows system.now.limits }
-    requires fits { FitsSystem system.now.rows.width pair.now }
-    requires inside { k + 1 < system.now.rows.width }
-    requires widths { HaveWidths (polytope_of system.now.rows system.now.limits) (forms_of pair.now) k widths.before widths.width }
-    requires kept { IsKept (polytope_of system.now.rows system.now.limits) pair.now k widths.width kept.old.factor kept.old.gauge }
-    requires narrow { nat_abs factor < 2 ^ 127 }
-    ensures kept { OnOk result (IsKept (polytope_of system.now.rows system.now.limits) pair.now k widths.width kept.new.factor kept.new.gauge) }
-    ensures covers { OnOk result (Covers (polytope_of system.now.rows system.now.limits) (forms_of pair.now) k kept.new.gauge.value factor) }
-    ensures no_worse { OnOk result (kept.new.gauge.value ≤ℚ kept.old.gauge.value) }
-    ensures halt { IfErr result (SearchHalts (polytope_of system.now.rows system.now.limits) pair.now) }
-{
-    let near = may_improve(factor, widths.before, widths.width);
-    if !near {
-        return Ok(());
-    }
-    let gauge = tested(alloc, system, pair, k, factor)?;
-    let best = kept.gauge.value;
-    if best <= gauge.value {
-        return Ok(());
-    }
-    *kept = Kept { factor, gauge };
-    Ok(())
-}
-
-// Tries the multiples of row k in the span.
-fn search_span(
-    alloc: Global,
-    system: &System,
-    pair: &Pair,
-    k: usize,
-    widths: Widths,
-    kept: &mut Kept,
-    span: Span,
-) -> Result<(), Halt>
-    requires ready { IsReady system.now.rows system.now.limits }
-    requires fits { FitsSystem system.now.rows.width pair.now }
-    requires inside { k + 1 < system.now.rows.width }
-    requires widths { HaveWidths (polytope_of system.now.rows system.now.limits) (forms_of pair.now) k widths.before widths.width }
-    requires kept { IsKept (polytope_of system.now.rows system.now.limits) pair.now k widths.width kept.old.factor kept.old.gauge }
-    requires order { span.low ≤ℤ span.high }
-    requires low_narrow { nat_abs span.low < 2 ^ 127 }
-    requires high_narrow { nat_abs span.high < 2 ^ 127 }
-    ensures least { OnOk result (IsLeastMultiple (polytope_of system.now.rows system.now.limits) pair.now k span.low span.high kept.new.factor kept.new.gauge) }
-    ensures halt { IfErr result (SearchHalts (polytope_of system.now.rows system.now.limits) pair.now) }
-{
-    let mut factor = span.low;
-    try_multiple(alloc, system, pair, k, widths, kept, factor)?;
-    while factor < span.high {
-        factor += 1;
-        try_multiple(alloc, system, pair, k, widths, kept, factor)?;
-    }
-    Ok(())
 }
 
 // The multiple of row k in the span at which row k + 1 is least wide; none where no other is better.
@@ -206,10 +215,12 @@ fn least_multiple(
     ensures halt { IfErr result (SearchHalts (polytope_of system.now.rows system.now.limits) pair.now) }
 {
     let mut best = unmoved(alloc, system, pair, k)?;
-    let width = best.gauge.value;
+    let width = best.width();
     let widths = Widths { before, width };
-    search_span(alloc, system, pair, k, widths, &mut best, span)?;
-    Ok(best)
+    match best.search_span(alloc, system, pair, k, &widths, span) {
+        Ok(()) => Ok(best),
+        Err(halt) => Err(halt),
+    }
 }
 
 /// The multiple of row k at which row k + 1 is least wide under the rows before row k, given the gauges of both rows, each
