@@ -176,6 +176,7 @@ impl Reduction {
         while k + 1 < count {
             k = self.turn(alloc, system, k)?;
         }
-        self.fill(alloc, system, count)
+        self.fill(alloc, system, count)?;
+        Ok(())
     }
 }
