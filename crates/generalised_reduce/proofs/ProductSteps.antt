@@ -184,10 +184,10 @@ module _ (r : Bool) (t u x y d e s other_s : ℕ) (p q : ℚ) (hp : none ≤ℚ 
   test_yes = OnTrue_from r _ (λ yes. let lt : x * e < y * d = test.0 yes in multiple_lt t u p q hp hq (omega (arith, left_side, right_side)))
 
   pub test_no : OnFalse r ((whole (pos u) *ℚ q) ≤ℚ (whole (pos t) *ℚ p))
-  test_no = OnFalse_from r _ (λ no. elim (Order.le_or_lt (whole (pos u) *ℚ q) (whole (pos t) *ℚ p)) [
+  test_no = OnFalse_from r _ (λ fails. elim (Order.le_or_lt (whole (pos u) *ℚ q) (whole (pos t) *ℚ p)) [
       inl h ↦ h
-    | inr less ↦ absurd (refused no (lt_multiple t u p q hp hq less))
+    | inr less ↦ absurd (refused fails (lt_multiple t u p q hp hq less))
     ])
     where
       refused : r ≡ false → (t * nat_abs p.num) * q.den < (u * nat_abs q.num) * p.den → ⊥
-      refused no lt = let yes : r ≡ true = test.1 (omega (arith, left_side, right_side)) in cc
+      refused fails lt = let yes : r ≡ true = test.1 (omega (arith, left_side, right_side)) in cc
