@@ -1,5 +1,4 @@
-use Rattle.std.proofs.Common.{◌≡◌, suc, ◌+◌, ◌*◌, ◌<◌, length, ◌∙◌, ap, ap₂, arith, rules, sym, subst, subst₂, SFits, to_z, of_z, to_z-of_z}
-use Rattle.std.specs.Int.{w128}
+use Rattle.std.proofs.Common.{◌≡◌, suc, ◌+◌, ◌*◌, ◌<◌, length, ◌∙◌, ap, ap₂, arith, sym, subst}
 use Rattle.std.proofs.lemmas.List.{length-map}
 use Rattle.exact_math.specs.Rational.{whole, ◌≤ℚ◌}
 use Rattle.exact_math.specs.RationalRing.{rationals}
@@ -37,10 +36,8 @@ returns-clause-best c =
     let k = c.args.k in
     let inside : suc k < t.width = omega (arith, c.requires.inside) in
     let there : k < length (forms_of m) = omega (arith, length-map m.u wholes, c.requires.fits.inverse.height_u) in
-    let low_fits : SFits w128 c.span_at-span.result.low = search rules in
-    let high_fits : SFits w128 c.span_at-span.result.high = search rules in
     let place : 2 * c.rows.result + 2 * k ≡ place_of p k = ap (λ r. 2 * r + 2 * k) c.rows.ensures.count ∙ place_is t c.args.system.now.limits (forms_of m) k (form_at (forms_of m) (suc k)) c.args.next.now c.requires.ready.as_many_limits there c.requires.next in
     let fraction : fraction_at c.items.result.now (2 * c.rows.result + 2 * k) ≡ fraction_at c.args.next.now.below (place_of p k) = ap₂ fraction_at c.items.ensures place in
-    let below : whole (to_z w128 (of_z w128 c.span_at-span.result.low)) ≤ℚ fraction_at c.args.next.now.below (place_of p k) = subst₂ (λ z f. whole z ≤ℚ f) (sym (to_z-of_z low_fits)) fraction c.span_at-span.ensures.low in
-    let above : fraction_at c.args.next.now.below (place_of p k) ≤ℚ whole (to_z w128 (of_z w128 c.span_at-span.result.high)) = subst₂ (λ z f. f ≤ℚ whole z) (sym (to_z-of_z high_fits)) fraction c.span_at-span.ensures.high in
+    let below : whole c.span_at-span.result.low ≤ℚ fraction_at c.args.next.now.below (place_of p k) = subst (λ f. whole c.span_at-span.result.low ≤ℚ f) fraction c.span_at-span.ensures.low in
+    let above : fraction_at c.args.next.now.below (place_of p k) ≤ℚ whole c.span_at-span.result.high = subst (λ f. f ≤ℚ whole c.span_at-span.result.high) fraction c.span_at-span.ensures.high in
     best_of_tested p m k c.requires.fits.inverse inside _ _ c.in_ok-best.best.factor c.in_ok-best.best.gauge c.args.next.now (system_wide t c.rows.ensures.size) c.requires.next below above c.in_ok-best.ensures.least
