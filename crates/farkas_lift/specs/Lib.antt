@@ -1,0 +1,6 @@
+pub mod Joined
+pub mod NodeEqualities
+pub mod NodeSides
+pub mod NodeSystem
+pub mod NodePoints
+pub mod NodeLifting
