@@ -141,9 +141,9 @@ root_framed : (rows : WholeRows) → IsWithinLimits rows → IsFramedPath rows [
 root_framed rows limits = record { within = root_within rows limits; short = omega arith }
 
 -- the place of a root stands for it
-pub root_stands : (rows : WholeRows) (best : Option ℤ) → IsWithinLimits rows → (place : Place) → IsRootPlace place → StandsFor rows place [] best
+pub root_stands : (rows : WholeRows) (best : Option ℤ) → IsWithinLimits rows → (place : Place) → IsRootPlace rows place → StandsFor rows place [] best
 root_stands rows best limits (places.Settled move) h = (root_framed rows limits, refl)
-root_stands rows best limits (places.Framed node) h = (root_framed rows limits, sym h)
+root_stands rows best limits (places.Framed node) h = (root_framed rows limits, sym h.0, h.1)
 root_stands rows best limits (places.Plain depth) h = subst (λ d. IsPlainFrom rows d []) (sym h) (turns_plain rows [] (root_framed rows limits))
 
 -- what follows of a value follows of an answer

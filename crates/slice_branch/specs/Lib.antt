@@ -1,3 +1,6 @@
 pub mod Directions
 pub mod Framed
+pub mod NodeFrames
 pub mod Places
+pub mod Roots
+pub mod SeenPoints

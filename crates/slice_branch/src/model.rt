@@ -1,6 +1,8 @@
 //! A model without its columns of one value and the rows that its box cannot violate.
-ghost use Rattle.std.specs.Prelude.{◌≡◌, length, All, IfOk};
+ghost use Rattle.std.specs.Prelude.{◌≡◌, [], length, All, IfOk};
+ghost use Rattle.farkas_lift.specs.NodeEqualities.{node_equalities};
 ghost use Rattle.presolve_map.specs.Columns.{IsColumnMap};
+ghost use Rattle.presolve_map.specs.ReducedRows.{IsReduced};
 
 use crate::halt::Halt;
 use presolve_map::{WorkRows, lift_form};
@@ -17,6 +19,7 @@ pub(crate) struct OpenModel<'a> {
     pub(crate) map: Affine<Work, Original>,
     pub(crate) work: WorkRows,
     ghost columns: { IsColumnMap rows.now.box map },
+    ghost presolved: { IsReduced rows.now work },
 }
 
 impl OpenModel<'_> {
@@ -41,7 +44,8 @@ impl OpenModel<'_> {
 
     /// The rows with equal sides, as equalities over the work columns.
     pub(crate) fn equalities(&self, alloc: Global) -> Result<Equalities, NoMemory>
-        ensures { IfOk result (All (λ equality. length equality.form ≡ length self.now.work.rows.box)) }
+        ensures lengths { IfOk result (All (λ equality. length equality.form ≡ length self.now.work.rows.box)) }
+        ensures value { IfOk result (λ equalities. equalities ≡ node_equalities self.now.work []) }
     {
         let mut equalities = Sequence::new(alloc);
         for i in 0..self.work.rows() {
