@@ -1,7 +1,7 @@
 -- Regions of the rational points that meet linear inequalities of whole numbers.
 use Rattle.std.specs.Prelude.{◌≡◌, ℕ, ℤ, ◌-ℤ◌, List, length, map, All}
 use Rattle.exact_math.specs.Ring.{integers}
-use Rattle.exact_math.specs.Rational.{ℚ, whole, ◌-ℚ◌, ◌≤ℚ◌}
+use Rattle.exact_math.specs.Rational.{ℚ, whole, ◌+ℚ◌, ◌-ℚ◌, ◌≤ℚ◌}
 use Rattle.exact_math.specs.RationalRing.{rationals}
 use Rattle.exact_vectors.specs.Vectors.{add, dot}
 use Rattle.exact_vectors.specs.Matrices.{combination, times_vector}
@@ -30,3 +30,12 @@ pulled r base lines inequality = record {
   factors = combination integers r inequality.factors lines;
   limit = inequality.limit -ℤ dot integers inequality.factors base;
 }
+
+-- y has r coordinates, and x0 + K y meets each inequality
+abbrev pub IsSolutionOver : ℕ → List ℤ → List (List ℤ) → List Inequality → List ℚ → Type 0
+IsSolutionOver r base lines inequalities y = (length y ≡ r) × All (IsMetAt (point_over base lines y)) inequalities
+
+-- For each point y of the one region the other has a point x at which the form is, by `constant`, more than the pulled form at y.
+abbrev pub HasMatches : (List ℚ → Type 0) → List ℤ → (List ℚ → Type 0) → List ℤ → ℤ → Type 0
+HasMatches inner pulled_form region form constant =
+    (y : List ℚ) → inner y → (x : List ℚ) × (region x × (form_value form x ≡ form_value pulled_form y +ℚ whole constant))

@@ -6,3 +6,14 @@ pub mod Inequalities
 pub mod Lines
 pub mod NodeLines
 pub mod Means
+pub mod RationalOrderLaws
+pub mod SliceLaws
+pub mod FormLaws
+pub mod WidthLaws
+pub mod LineLaws
+pub mod NodePointLaws
+pub mod NodeLineLaws
+pub mod PulledLaws
+pub mod MeanLaws
+pub mod FixedPointLaws
+pub mod MeanOverLaws

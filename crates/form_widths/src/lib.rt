@@ -9,5 +9,6 @@ mod regions;
 
 pub use nodes::node_lines;
 pub use regions::{
-    end_lines, mean_has_room, pulled_regions, slices_are_shown, widths_are_compared,
+    end_lines, mean_has_room, pulled_regions, slacks_are_counted, slices_are_shown,
+    widths_are_compared,
 };

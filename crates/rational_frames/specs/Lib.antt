@@ -1,1 +1,2 @@
 pub mod RationalFrames
+pub mod RationalFrameLaws
