@@ -97,9 +97,9 @@ module _ (rows : WholeRows) (path : List Slice) (best : Option ℤ) where
   plain_at (Plain depth) plain here move h = move_of_plain rows depth path here best move h
 
 -- the mark of a split that is chosen at a place
-thin_mark : (rows : WholeRows) (path : List Slice) (best : Option ℤ) (cut : Cut) (height : ℕ) → IsMove rows path best height false (moves.Split cut) → IsMarked rows path best cut cut.mark → IsThinMove rows path cut
+thin_mark : (rows : WholeRows) (path : List Slice) (best : Option ℤ) (cut : Cut) (height : ℕ) → IsMove rows path best height false (moves.Split cut) → IsMarked rows path best cut cut.mark → IsThinMove rows path best cut
 thin_mark rows path best cut height chosen marked = by_mark cut.mark refl marked where
-  by_mark : (mark : _) → cut.mark ≡ mark → IsMarked rows path best cut mark → IsThinMove rows path cut
+  by_mark : (mark : _) → cut.mark ≡ mark → IsMarked rows path best cut mark → IsThinMove rows path best cut
   by_mark marks.Thin is m = m
   by_mark marks.Plain is m = absurd (cc (chosen.2.0 is))
 

@@ -83,7 +83,9 @@ pulled-kept box placing form is long =
     (Matrix.length-combination integers width form lines (width-lines width 0 (open_flags box)) ∙ sym (length-kept box form long))
     (λ j lt.
     let below : j < width = omega (arith, Matrix.length-combination integers width form lines (width-lines width 0 (open_flags box))) in
+    let place : j ≡ 0 + j = omega arith in
     Matrix.combination-at integers width form lines j (width-lines width 0 (open_flags box))
+    ∙ ap (λ k. dot integers form (column integers (column_lines (length (kept_columns box)) 0 (open_flags box)) k)) place
     ∙ from_place width 0 (open_flags box) form j flags (omega arith))
 
 -- the factors at the numbers of the flags that are set

@@ -39,7 +39,7 @@ pub same_ends : {A : Type 0} (xs ys : List A) (x y : A) → xs ++ x ∷ [] ≡ y
 same_ends [] [] x y e = (refl, cc)
 same_ends [] (b ∷ ys) x y e = absurd (omega (arith, ap length e, length-append ys (y ∷ [])))
 same_ends (a ∷ xs) [] x y e = absurd (omega (arith, ap length e, length-append xs (x ∷ [])))
-same_ends (a ∷ xs) (b ∷ ys) x y e =
+same_ends {A} (a ∷ xs) (b ∷ ys) x y e =
     let first : a ≡ b = cc in
     let others : xs ++ x ∷ [] ≡ ys ++ y ∷ [] = cc in
     let rest = same_ends xs ys x y others in

@@ -4,3 +4,4 @@ pub mod NodeFrames
 pub mod Places
 pub mod Roots
 pub mod SeenPoints
+pub mod ThinMoves

@@ -161,6 +161,7 @@ impl SliceBrancher<'_> {
 
     /// The move of a place that is not split by single columns, where it has one. The place stays what it is.
     fn thin_move(&self, place: &mut Place, path: &Path, best: Option<i128>) -> Result<Move, Halt>
+        requires stands { StandsFor self.now.rows.now place.old path.now best }
         requires forms { HasForms (length self.now.rows.now.box) path.now }
         requires small { widest self.now.rows.now.box ≤ 2 ^ 97 }
         ensures kept { IsKept place.old place.new }
@@ -179,6 +180,7 @@ impl SliceBrancher<'_> {
 
     /// The move of a node with a frame.
     fn node_move(&self, node: &mut Node, path: &Path, best: Option<i128>) -> Result<Move, Halt>
+        requires node { IsNodeFrame self.now.rows.now path.now node.old.frame }
         requires forms { HasForms (length self.now.rows.now.box) path.now }
         requires small { widest self.now.rows.now.box ≤ 2 ^ 97 }
         ensures depth { node.new.depth ≡ node.old.depth }

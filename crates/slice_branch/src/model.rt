@@ -1,6 +1,7 @@
 //! A model without its columns of one value and the rows that its box cannot violate.
-ghost use Rattle.std.specs.Prelude.{◌≡◌, [], length, All, IfOk};
-ghost use Rattle.farkas_lift.specs.NodeEqualities.{node_equalities};
+ghost use Rattle.std.specs.Prelude.{◌≡◌, ◌<◌, ◌++◌, [], length, All, IfOk, OnOk};
+ghost use Rattle.whole_rows.specs.WholeRows.{row_at};
+ghost use Rattle.farkas_lift.specs.NodeEqualities.{common_side, node_equalities, row_equality};
 ghost use Rattle.presolve_map.specs.Columns.{IsColumnMap};
 ghost use Rattle.presolve_map.specs.ReducedRows.{IsReduced};
 
@@ -49,15 +50,27 @@ impl OpenModel<'_> {
     {
         let mut equalities = Sequence::new(alloc);
         for i in 0..self.work.rows() {
-            let low = self.work.low(i);
-            if let Some(side) = low
-                && low == self.work.high(i)
-            {
-                let form = Form::of(self.work.row(i).to_vec(alloc)?);
-                equalities.push(Equality { form, side })?;
-            }
+            self.push_equality(alloc, &mut equalities, i)?;
         }
         Ok(equalities)
+    }
+
+    /// Puts row `i` at the end, where its sides are equal.
+    fn push_equality(
+        &self,
+        alloc: Global,
+        equalities: &mut Equalities,
+        i: usize,
+    ) -> Result<(), NoMemory>
+        requires { i < length self.now.work.rows.rows }
+        ensures value { OnOk result (equalities.new ≡ equalities.old ++ row_equality (row_at self.now.work.rows i)) }
+        ensures lengths { OnOk result (All (λ equality. length equality.form ≡ length self.now.work.rows.box) (row_equality (row_at self.now.work.rows i))) }
+    {
+        if let Some(side) = common_side(self.work.low(i), self.work.high(i)) {
+            let form = Form::of(self.work.row(i).to_vec(alloc)?);
+            equalities.push(Equality { form, side })?;
+        }
+        Ok(())
     }
 
     /// The form that is the value of work column `j`.
@@ -68,6 +81,22 @@ impl OpenModel<'_> {
         };
         *factor = 1;
         self.lifted(alloc, &factors)
+    }
+}
+
+/// The value of two sides, where both are there and equal.
+fn common_side(low: Option<i128>, high: Option<i128>) -> Option<i128>
+    ensures { result ≡ common_side low high }
+{
+    match (low, high) {
+        (Some(low), Some(high)) => {
+            if low == high {
+                Some(low)
+            } else {
+                None
+            }
+        }
+        _ => None,
     }
 }
 
