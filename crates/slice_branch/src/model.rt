@@ -89,13 +89,7 @@ fn common_side(low: Option<i128>, high: Option<i128>) -> Option<i128>
     ensures { result ≡ common_side low high }
 {
     match (low, high) {
-        (Some(low), Some(high)) => {
-            if low == high {
-                Some(low)
-            } else {
-                None
-            }
-        }
+        (Some(low), Some(high)) => { if low == high { Some(low) } else { None } }
         _ => None,
     }
 }

@@ -9,5 +9,5 @@ use Rattle.slice_branch.proofs.model.OpenModel.equalities.Given as goal
 abbrev pub invariant-loop-i : goal.invariant-loop-i
 invariant-loop-i l = record {
   value : l.equalities ≡ joined (λ i. row_equality (row_at l.self.work.rows i)) l.i;
-  lengths : All (λ (equality : Equality). length equality.form ≡ length l.self.work.rows.box) l.equalities
+  lengths : All (λ (equality : Equality). length equality.form ≡ length l.self.work.rows.box) l.equalities;
 }
