@@ -14,6 +14,7 @@ use Rattle.slice_branch.specs.declared.place.Node.{Node}
 use Rattle.slice_branch.specs.declared.place.Place.{Place}
 use Rattle.slice_branch.specs.declared.place.Place.TheVariants.{Settled, Framed, Plain}
 use Rattle.slice_branch.specs.Framed.{IsAllowed, IsFramedMove, IsMarked, IsThinMove}
+use Rattle.slice_branch.specs.NodeFrames.{IsNodeFrame}
 use Rattle.slice_branch.specs.Places.{height_of, is_plain_place, plain_from, IsFramedPath, IsKept, IsPathWithin, IsPlainFrom, StandsFor}
 use Rattle.slice_branch.proofs.PlaceLaws.{begins_plain, below_framed, longer, lower_framed, move_of_framed, turns_lower, turns_plain, widest_is_small}
 use Rattle.slice_branch.proofs.PlaceLaws as place_laws
@@ -40,7 +41,7 @@ module _ (rows : WholeRows) (path : List Slice) (best : Option ℤ) where
   kept_stands (Settled move) (Framed node) kept here = absurd kept
   kept_stands (Settled move) (Plain depth) kept here = absurd kept
   kept_stands (Framed node) (Settled move) kept here = absurd kept
-  kept_stands (Framed node) (Framed other) kept here = (here.0, here.1 ∙ sym kept)
+  kept_stands (Framed node) (Framed other) kept here = (here.0, here.1 ∙ sym kept.0, subst (IsNodeFrame rows path) (sym kept.1) here.2)
   kept_stands (Framed node) (Plain depth) kept here = absurd kept
   kept_stands (Plain depth) (Settled move) kept here = absurd kept
   kept_stands (Plain depth) (Framed node) kept here = absurd kept
@@ -96,9 +97,9 @@ module _ (rows : WholeRows) (path : List Slice) (best : Option ℤ) where
   plain_at (Plain depth) plain here move h = move_of_plain rows depth path here best move h
 
 -- the mark of a split that is chosen at a place
-thin_mark : (rows : WholeRows) (path : List Slice) (best : Option ℤ) (cut : Cut) (height : ℕ) → IsMove rows path best height false (moves.Split cut) → IsMarked rows path best cut cut.mark → IsThinMove rows path cut
+thin_mark : (rows : WholeRows) (path : List Slice) (best : Option ℤ) (cut : Cut) (height : ℕ) → IsMove rows path best height false (moves.Split cut) → IsMarked rows path best cut cut.mark → IsThinMove rows path best cut
 thin_mark rows path best cut height chosen marked = by_mark cut.mark refl marked where
-  by_mark : (mark : _) → cut.mark ≡ mark → IsMarked rows path best cut mark → IsThinMove rows path cut
+  by_mark : (mark : _) → cut.mark ≡ mark → IsMarked rows path best cut mark → IsThinMove rows path best cut
   by_mark marks.Thin is m = m
   by_mark marks.Plain is m = absurd (cc (chosen.2.0 is))
 
@@ -122,10 +123,10 @@ module _ (rows : WholeRows) (cut : Cut) (j : ℤ) (first : pos 0 ≤ℤ j) (last
       }
 
   -- the slices of a node with a frame, with a frame or without
-  pub framed_child : (node child : Node) → child.depth ≡ node.depth + 1 → At (Framed node) → Below (Framed node) (Framed child)
-  framed_child node child deeper b =
+  pub framed_child : (node child : Node) → child.depth ≡ node.depth + 1 → (IsNodeFrame rows path node.frame → IsNodeFrame rows (on_slice path cut.form (cut.lo +ℤ j)) child.frame) → At (Framed node) → Below (Framed node) (Framed child)
+  framed_child node child deeper sliced b =
       let thin = thin_mark rows path best cut (height_of rows (Framed node) path) b.chosen b.allowed.1 in record {
-        here = λ other framed. (below_framed rows path best cut j framed.0.within b.allowed.0 first last thin, longer rows path best cut j framed.0.within b.allowed.0 first last ∙ omega (arith, framed.1, deeper));
+        here = λ other framed. (below_framed rows path best cut j framed.0.within b.allowed.0 first last thin, longer rows path best cut j framed.0.within b.allowed.0 first last ∙ omega (arith, framed.1, deeper), sliced framed.2);
         lower = lower_framed rows path best cut j b.here.0.within b.allowed.0 first last thin;
         plain = λ h. absurd (cc h);
       }

@@ -1,3 +1,7 @@
 pub mod Directions
 pub mod Framed
+pub mod NodeFrames
 pub mod Places
+pub mod Roots
+pub mod SeenPoints
+pub mod ThinMoves

@@ -14,6 +14,7 @@ mod points;
 mod quotient;
 mod seen;
 mod short;
+mod shown;
 mod work;
 
 pub use brancher::SliceBrancher;

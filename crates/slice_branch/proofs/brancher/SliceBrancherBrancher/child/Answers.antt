@@ -28,7 +28,7 @@ returns-in-Ok-clause-place c = λ path best branches.
     let rows = c.args.self.now.rows.now in
     let cut = c.args.cut.now in
     subst (λ (place : Place). IsChildOf StandsFor height_of is_plain_place rows place path cut.form (cut.lo +ℤ c.args.j) (Framed c.in-Ok.child)) (sym c.in-Framed.is)
-    (framed_child rows cut c.args.j c.requires.first c.requires.last path best c.in-Framed.node c.in-Ok.child c.in-Ok.ensures
+    (framed_child rows cut c.args.j c.requires.first c.requires.last path best c.in-Framed.node c.in-Ok.child c.in-Ok.ensures.depth (c.in-Ok.ensures.frame path)
     (subst (λ (place : Place). Branches StandsFor height_of is_plain_place IsAllowed rows place cut path best) c.in-Framed.is branches))
 
 pub returns-in-Err-GivesUp-clause-place : goal.returns-in-Err-GivesUp-clause-place

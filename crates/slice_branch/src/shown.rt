@@ -1,0 +1,78 @@
+//! What points of a node show of a form: they are believed only as they pass the check of a node's points.
+ghost use Rattle.std.specs.Prelude.{◌≡◌, length, IfOk, IsTrue};
+ghost use Rattle.farkas_rows.specs.Refutes.{HasForms};
+ghost use Rattle.slice_branch.specs.SeenPoints.{ArePoints, IsAtLeastAt, IsAtMostAt, ShowEnds};
+
+use crate::halt::Halt;
+use crate::seen::Seen;
+use crate::work::Task;
+use exact_vectors::dot_checked;
+use node_point::NodePoint;
+use std::alloc::Global;
+
+/// Those of the points that pass the check.
+pub(crate) fn believed<'a>(
+    alloc: Global,
+    task: Task<'a>,
+    seen: &Seen,
+) -> Result<Vec<NodePoint>, Halt>
+    requires { HasForms (length task.rows.now.box) task.path.now }
+    ensures { IfOk result (λ points. ArePoints task.entry.rows.now task.entry.path.now task.entry.best points.items) }
+{
+    let mut points = Vec::new(alloc);
+    for vertex in seen.points() {
+        let numerators = vertex.numerators.to_vec(alloc)?;
+        let denominator = vertex.denominator;
+        let point = NodePoint::of(task.rows, task.path, task.best, numerators, denominator);
+        if let Some(point) = point {
+            points.push(point)?;
+        }
+    }
+    Ok(points)
+}
+
+/// Whether the form is at most the number at the point, and all numbers on the way fit.
+fn is_at_most_at(form: &[i128], number: i128, point: &NodePoint) -> bool
+    ensures { IsTrue result → IsAtMostAt form.now number point.now }
+{
+    if form.len() != point.numerators().len() {
+        return false;
+    }
+    let Some(value) = dot_checked(form, point.numerators()) else {
+        return false;
+    };
+    match number.checked_mul(point.denominator()) {
+        Some(most) => value <= most,
+        None => false,
+    }
+}
+
+/// Whether the form is at least the number at the point, and all numbers on the way fit.
+fn is_at_least_at(form: &[i128], number: i128, point: &NodePoint) -> bool
+    ensures { IsTrue result → IsAtLeastAt form.now number point.now }
+{
+    if form.len() != point.numerators().len() {
+        return false;
+    }
+    let Some(value) = dot_checked(form, point.numerators()) else {
+        return false;
+    };
+    match number.checked_mul(point.denominator()) {
+        Some(least) => least <= value,
+        None => false,
+    }
+}
+
+/// Whether the points show that the form reaches the first and the last of `count` slices from `lo` on.
+pub(crate) fn show_ends(points: &[NodePoint], form: &[i128], lo: i128, count: i128) -> bool
+    ensures { IsTrue result → ShowEnds form.now lo count points.now }
+{
+    if count <= 0 {
+        return true;
+    }
+    let Some(last) = lo.checked_add(count - 1) else {
+        return false;
+    };
+    points.iter().any(|point| is_at_most_at(form, lo, point))
+        && points.iter().any(|point| is_at_least_at(form, last, point))
+}
