@@ -15,6 +15,7 @@ pub mod WholeSums
 pub mod Denominators
 pub mod MissSteps
 pub mod GapSteps
+pub mod ShowingSteps
 pub mod FramingSteps
 pub mod SliceLaws
 pub mod SliceSteps

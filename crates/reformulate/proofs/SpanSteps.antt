@@ -243,19 +243,19 @@ front : (n : ℕ) (equalities : List Equality) (equality : Equality) → HasWidt
 front n equalities equality h = wide_parts n (forms_of equalities) equality.form (subst (HasWidth n) (forms-push equalities equality) h)
 
 FramesAll-spans : (n : ℕ) (equalities : List Equality) (c : Chart) → FramesAll n equalities c → HasWidth n (forms_of equalities) → Spans n equalities
-FramesAll-spans n [] c begun wide = Spans-begun n
-FramesAll-spans n equalities c (met before equality c' h is) wide =
-    let parts = front n before equality wide in
+FramesAll-spans n [] c begun widths = Spans-begun n
+FramesAll-spans n equalities c (met before equality c' h is) widths =
+    let parts = front n before equality widths in
     Spans-met n (length c.pair.u) before equality c is (FramesAll-chart n before c h) parts.1 (FramesAll-spans n before c h parts.0)
-FramesAll-spans n equalities c (taken_up before equality from to steps h takes) wide =
-    let parts = front n before equality wide in
+FramesAll-spans n equalities c (taken_up before equality from to steps h takes) widths =
+    let parts = front n before equality widths in
     Spans-takes_up n before equality from c steps takes (FramesAll-chart n before from h) parts.1 (FramesAll-spans n before from h parts.0)
 
 pub Reach-spans : (n : ℕ) (equalities : List Equality) (c : Chart) → Reach n equalities c → HasWidth n (forms_of equalities) → Spans n equalities
-Reach-spans n equalities c (at_once all from to steps h reduces) wide = FramesAll-spans n equalities from h wide
-Reach-spans n equalities c (stays before equality c' h is) wide =
-    let parts = front n before equality wide in
+Reach-spans n equalities c (at_once all from to steps h reduces) widths = FramesAll-spans n equalities from h widths
+Reach-spans n equalities c (stays before equality c' h is) widths =
+    let parts = front n before equality widths in
     Spans-met n (length c.pair.u) before equality c is (Reach-reached n before c h).chart parts.1 (Reach-spans n before c h parts.0)
-Reach-spans n equalities c (one_more before equality from between to steps more h takes reduces) wide =
-    let parts = front n before equality wide in
+Reach-spans n equalities c (one_more before equality from between to steps more h takes reduces) widths =
+    let parts = front n before equality widths in
     Spans-takes_up n before equality from between steps takes (Reach-reached n before from h).chart parts.1 (Reach-spans n before from h parts.0)

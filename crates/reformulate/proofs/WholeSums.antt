@@ -102,9 +102,12 @@ time_is s common q h =
     let c : ℤ = neg_ℤ (s *ℤ pos common) in
     let cancel : common / q.den * q.den ≡ common = mul_comm (common / q.den) q.den ∙ mul-div_cancel' q.den h in
     whole-frac (neg_ℤ (s *ℤ q.num) *ℤ pos (common / q.den))
-    ∙ same_frac (neg_ℤ (s *ℤ q.num) *ℤ pos (common / q.den)) (c *ℤ q.num) 1 (1 * q.den) (omega arith) (let p = den_pos q in omega arith) (cross s q.num (pos (common / q.den)) (pos q.den) (pos common) (ap pos cancel) ∙ ap (λ d. c *ℤ q.num *ℤ pos d) refl)
+    ∙ same_frac (neg_ℤ (s *ℤ q.num) *ℤ pos (common / q.den)) (c *ℤ q.num) 1 (1 * q.den) (omega arith) (let p = den_pos q in omega arith) (ap (λ d. neg_ℤ (s *ℤ q.num) *ℤ pos (common / q.den) *ℤ pos d) (one_times q.den) ∙ cross s q.num (pos (common / q.den)) (pos q.den) (pos common) (ap pos cancel))
     ∙ sym (ap₂ ◌*ℚ◌ (whole-frac c) (sym (frac-self q)) ∙ frac-mul c q.num 1 q.den (omega arith) (den_pos q))
   where
+    one_times : (k : ℕ) → 1 * k ≡ k
+    one_times k = omega arith
+
     cross : (s num e den common : ℤ) → e *ℤ den ≡ common → (neg_ℤ (s *ℤ num) *ℤ e) *ℤ den ≡ (neg_ℤ (s *ℤ common) *ℤ num) *ℤ pos 1
     cross s num e den common h = simp expand (omega (linear, simp expand at (ap (λ t. s *ℤ num *ℤ t) h)))
 

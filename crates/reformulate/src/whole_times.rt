@@ -39,7 +39,7 @@ fn pad(times: &mut Vec<i128>, count: usize) -> Result<(), LiftStop>
     ensures value { OnOk result (times.new.items ≡ times.old.items ++ zeros integers count) }
     ensures stop { IfErr result (StopsUnless ⊤) }
 {
-    for _ in 0..count {
+    for _place in 0..count {
         times.push(0)?;
     }
     Ok(())
