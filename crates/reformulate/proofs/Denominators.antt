@@ -1,5 +1,5 @@
 -- The least common denominator of fractions, and that their whole times have no common divisor but 1.
-use Rattle.std.proofs.Common.{◌≡◌, ◌≢◌, ℕ, zero, suc, ◌+◌, ◌*◌, ◌/◌, ◌^◌, ◌<◌, ◌≤◌, Bool, true, false, ℤ, pos, negsuc, neg_ℤ, nat_abs, ◌*ℤ◌, List, [], ◌∷◌, ◌++◌, length, map, get_or, take, refl, sym, ap, ap₂, subst, ◌∙◌, arith, All, mul_comm, mul_assoc}
+use Rattle.std.proofs.Common.{◌≡◌, ◌≢◌, ℕ, zero, suc, ◌+◌, ◌*◌, ◌/◌, ◌^◌, ◌<◌, ◌≤◌, Bool, true, false, ℤ, pos, negsuc, neg_ℤ, nat_abs, ◌*ℤ◌, ◌<ℤ◌, List, [], ◌∷◌, ◌++◌, length, map, get_or, take, refl, sym, ap, ap₂, subst, ◌∙◌, arith, All, mul_comm, mul_assoc}
 use Rattle.std.specs.Int.{◌∣◌}
 use Rattle.std.proofs.Math.Nat.{dvd-mul_left, dvd-mul_right, mul-div_cancel', mul-div_cancel_left, one-dvd, dvd_trans}
 use Rattle.std.proofs.lemmas.Nat.Gcd.{dvd_antisymm, le_of_dvd}
@@ -8,6 +8,7 @@ use Rattle.std.proofs.lemmas.List.Elements.{All-nil, All-cons, All-head, All-tai
 use Rattle.exact_math.specs.Gcd.{gcd, lcm}
 use Rattle.exact_math.specs.GcdLaws.{gcd_comm, gcd_dvd_left, gcd_dvd_right, dvd_from_product, nat_abs-neg_ℤ}
 use Rattle.exact_math.specs.IntegerOrder.{abs_mul}
+use Rattle.exact_math.specs.IntegerRing.{linear}
 use Rattle.exact_math.specs.LcmLaws.{dvd_lcm_left, dvd_lcm_right, lcm_dvd, lcm_pos}
 use Rattle.exact_math.specs.Rational.{ℚ}
 use Rattle.exact_math.specs.RationalLaws.{den_pos, terms_lowest}
@@ -64,6 +65,10 @@ IsCommon-below m i d common lt h =
     let c = common-is m in
     let all = c.multiple in
     le_of_dvd c.positive (lcm_dvd common (get_or m i d).den (common_denominator m) (den_pos (get_or m i d)) (h.least (common_denominator m) (All-take (λ (q : ℚ). q.den ∣ common_denominator m) i m all)) (all i d lt))
+
+-- a positive number
+pub above_zero : (n : ℕ) → 0 < n → pos 0 <ℤ pos n
+above_zero n h = omega linear
 
 -- ---- common divisors
 

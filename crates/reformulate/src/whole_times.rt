@@ -1,5 +1,5 @@
 //! Multipliers freed of their denominators.
-ghost use Rattle.std.specs.Prelude.{◌≡◌, ◌^◌, ◌<◌, pos, nat_abs, ◌<ℤ◌, ◌++◌, FitsSigned, IfErr, IfOk, OnOk, SomeIff, ⊤};
+ghost use Rattle.std.specs.Prelude.{◌≡◌, ◌^◌, ◌<◌, pos, nat_abs, ◌<ℤ◌, ◌*ℤ◌, ◌++◌, FitsSigned, IfErr, IfOk, OnOk, SomeIff, ⊤};
 ghost use Rattle.exact_math.specs.Ring.{integers};
 ghost use Rattle.exact_vectors.specs.Vectors.{zeros};
 ghost use Rattle.row_lifting.specs.Stops.{StopsUnless};
@@ -26,12 +26,20 @@ fn whole_time(negative: bool, common: i128, multiplier: &Frac) -> Option<i128>
     requires { pos 0 <ℤ common }
     ensures { SomeIff result (FitsSigned w128 (time_of negative (nat_abs common) multiplier.now)) (time_of negative (nat_abs common) multiplier.now) }
 {
-    let number = if negative {
-        multiplier.num()
+    let share = common / multiplier.den();
+    if negative {
+        multiplier.num().checked_mul(share)
     } else {
-        -multiplier.num()
-    };
-    number.checked_mul(common / multiplier.den())
+        (-multiplier.num()).checked_mul(share)
+    }
+}
+
+// The number, with the other sign where it is to be `negative`.
+fn signed(negative: bool, common: i128) -> i128
+    requires { pos 0 <ℤ common }
+    ensures { result ≡ sign_of negative *ℤ common }
+{
+    if negative { -common } else { common }
 }
 
 // Puts so many zeros behind.
@@ -68,7 +76,7 @@ pub(crate) fn whole_times(
         };
         times.push(time)?;
     }
-    times.push(if negative { -common } else { common })?;
+    times.push(signed(negative, common))?;
     pad(&mut times, later)?;
     Ok(times)
 }
