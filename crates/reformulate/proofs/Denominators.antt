@@ -70,6 +70,11 @@ IsCommon-below m i d common lt h =
 pub above_zero : (n : ℕ) → 0 < n → pos 0 <ℤ pos n
 above_zero n h = omega linear
 
+-- it is its size
+pub positive_is : (z : ℤ) → pos 0 <ℤ z → z ≡ pos (nat_abs z)
+positive_is (pos n) h = refl
+positive_is (negsuc n) h = absurd (omega (linear, h))
+
 -- ---- common divisors
 
 -- the greatest common divisor of joined lists divides that of each
