@@ -27,6 +27,7 @@ returns-else-negative c =
     let den_fits : FitsSigned w128 c.den.result = search rules in
     let num_fits : FitsSigned w128 c.num-else-negative.result = search rules in
     let quotient : FitsSigned w128 (int_div c.args.common c.den.result) = quot_fits w128 c.args.common c.den.result common_fits (subst (λ z. pos 0 <ℤ z) (sym c.den.ensures.value) (above_zero _ (den_pos c.args.multiplier.now))) in
+    let neg_fits : FitsSigned w128 (neg_ℤ c.num-else-negative.result) = search rules in
     let answered = simp to_z-of_z at c.checked_mul-else-negative.ensures in
     subst (λ b. SomeIff c.checked_mul-else-negative.result (FitsSigned w128 (time_of b (nat_abs c.args.common) c.args.multiplier.now)) (time_of b (nat_abs c.args.common) c.args.multiplier.now)) (sym c.if-negative.false)
     (answered_so c.checked_mul-else-negative.result (neg_ℤ c.num-else-negative.result) (int_div c.args.common c.den.result) _ _ (ap neg_ℤ c.num-else-negative.ensures.value ∙ positive_number q.num) (ap (int_div c.args.common) c.den.ensures.value ∙ share_is c.args.common q.den c.requires) answered)
