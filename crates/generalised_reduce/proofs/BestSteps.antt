@@ -160,9 +160,9 @@ searched_more p m k v width low high at next factor new_factor gauge new before 
   where
     by_place : (j : ℤ) → low ≤ℤ j → j ≤ℤ next → Covers p (forms_of m) k new.value j
     by_place j l u = elim (place at next is j) [
-        inl here ↦ subst (Covers p (forms_of m) k new.value) (sym here) covers
+      | inl here ↦ subst (Covers p (forms_of m) k new.value) (sym here) covers
       | inr earlier ↦ λ bound h. Order.le_trans new.value gauge.value bound le (before.covered j l (earlier u) bound h)
-      ]
+    ]
 
 -- at the upper end
 pub searched_all : (p : Polytope) (m : Matrices) (k : ℕ) (v width : ℚ) (low high at factor : ℤ) (gauge : Gauge) → IsSearched p m k v width low high at factor gauge → high ≤ℤ at → IsLeastMultiple p m k low high factor gauge
