@@ -1,0 +1,11 @@
+pub mod Reduced
+pub mod DifferenceLaws
+pub mod ReducedLaws
+pub mod MultiplierLaws
+pub mod BoundLaws
+pub mod Moves
+pub mod MoveLaws
+pub mod Ready
+pub mod Halts
+pub mod States
+pub mod ThinLaws
