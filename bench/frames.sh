@@ -24,8 +24,8 @@ use Rattle.std.proofs.Common.{◌≡◌, length, All}
 use Rattle.reformulate.specs.declared.equality.Equality.{Equality}
 use Rattle.frame_bench.proofs.market.Given as goal
 
-abbrev pub invariant-loop-_row : goal.invariant-loop-_row
-invariant-loop-_row l = All (λ (equality : Equality). length equality.form ≡ l.columns) l.equalities
+abbrev pub invariant-loop-row : goal.invariant-loop-row
+invariant-loop-row l = All (λ (equality : Equality). length equality.form ≡ l.columns) l.equalities
 PROOFS
 
 cat > "$bench/proofs/row/Invariants.antt" <<'PROOFS'

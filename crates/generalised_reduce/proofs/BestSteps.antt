@@ -1,6 +1,8 @@
 -- What the search for the best multiple uses.
-use Rattle.std.proofs.Common.{◌≡◌, ◌≢◌, ◌⊎◌, inl, inr, ℕ, suc, ◌+◌, ◌*◌, ◌<◌, ◌≤◌, ℤ, pos, nat_abs, ◌+ℤ◌, ◌≤ℤ◌, ◌<ℤ◌, List, [], ◌∷◌, ◌++◌, length, get_or, map, take, refl, sym, ap, subst, ◌∙◌, arith, All, length-append}
-use Rattle.std.proofs.lemmas.Int.{ints}
+use Rattle.std.proofs.Common.{◌≡◌, ◌≢◌, ◌⊎◌, inl, inr, ℕ, suc, ◌+◌, ◌*◌, ◌^◌, ◌<◌, ◌≤◌, ℤ, pos, negsuc, nat_abs, ◌+ℤ◌, ◌-ℤ◌, ◌≤ℤ◌, ◌<ℤ◌, FitsSigned, to_z, of_z, List, [], ◌∷◌, ◌++◌, length, get_or, map, take, refl, sym, ap, subst, ◌∙◌, arith, All, length-append}
+use Rattle.std.specs.Int.{w128}
+use Rattle.std.proofs.lemmas.Int.{ints, to_z-of_z, fits_signed_from_abs}
+use Rattle.exact_math.specs.IntegerRing.{linear}
 use Rattle.std.proofs.lemmas.List.{length-map, length-take}
 use Rattle.exact_math.specs.IntegerOrder as Z
 use Rattle.exact_math.specs.Rational.{ℚ, whole, neg_ℚ, ◌+ℚ◌, ◌*ℚ◌, ◌≤ℚ◌, ◌<ℚ◌}
@@ -158,9 +160,9 @@ searched_more p m k v width low high at next factor new_factor gauge new before 
   where
     by_place : (j : ℤ) → low ≤ℤ j → j ≤ℤ next → Covers p (forms_of m) k new.value j
     by_place j l u = elim (place at next is j) [
-        inl here ↦ subst (Covers p (forms_of m) k new.value) (sym here) covers
+      | inl here ↦ subst (Covers p (forms_of m) k new.value) (sym here) covers
       | inr earlier ↦ λ bound h. Order.le_trans new.value gauge.value bound le (before.covered j l (earlier u) bound h)
-      ]
+    ]
 
 -- at the upper end
 pub searched_all : (p : Polytope) (m : Matrices) (k : ℕ) (v width : ℚ) (low high at factor : ℤ) (gauge : Gauge) → IsSearched p m k v width low high at factor gauge → high ≤ℤ at → IsLeastMultiple p m k low high factor gauge
@@ -170,6 +172,26 @@ searched_all p m k v width low high at factor gauge s end = record {
   kept = s.kept;
   least = λ j l u. s.covered j l (omega (arith, ints, end));
 }
+
+-- how many steps of one are left below the upper end
+abbrev pub steps_left : ℤ → ℕ
+steps_left (pos n) = n
+steps_left (negsuc n) = 0
+
+pub fewer_steps : (d e : ℤ) → pos 0 <ℤ d → d ≡ e +ℤ pos 1 → steps_left e < steps_left d
+fewer_steps (pos n) (pos i) h is = omega (arith, ints, is)
+fewer_steps (pos n) (negsuc i) h is = omega (arith, ints, h)
+fewer_steps (negsuc n) e h is = absurd (omega (arith, ints, h))
+
+pub fewer_left : (high at next : ℤ) → next ≡ at +ℤ pos 1 → at <ℤ high → steps_left (high -ℤ next) < steps_left (high -ℤ at)
+fewer_left high at next is h = fewer_steps (high -ℤ at) (high -ℤ next) (omega (arith, ints, h)) (omega (arith, ints, is))
+
+-- the next number is as narrow as the ends
+pub next_fits : (low high at : ℤ) → low ≤ℤ at → at <ℤ high → nat_abs low < 2 ^ 127 → nat_abs high < 2 ^ 127 → FitsSigned w128 (at +ℤ pos 1)
+next_fits low high at l h low_narrow high_narrow = fits_signed_from_abs w128 (at +ℤ pos 1) (omega (linear, l, h, low_narrow, high_narrow))
+
+pub next_is : (low high at : ℤ) → low ≤ℤ at → at <ℤ high → nat_abs low < 2 ^ 127 → nat_abs high < 2 ^ 127 → to_z w128 (of_z w128 (at +ℤ pos 1)) ≡ at +ℤ pos 1
+next_is low high at l h low_narrow high_narrow = to_z-of_z w128 (at +ℤ pos 1) (next_fits low high at l h low_narrow high_narrow)
 
 -- ---- the multipliers of a gauge
 

@@ -4,4 +4,5 @@ pub mod MultipleSteps
 pub mod TestSteps
 pub mod BestSteps
 pub mod TurnSteps
+pub mod ImproveSteps
 pub mod WorkedStrip

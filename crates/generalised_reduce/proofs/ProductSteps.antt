@@ -139,12 +139,12 @@ pub by_high : (h k low other r s d e b : ℕ) → low < b → other < b → r < 
 by_high h k low other r s d e b fits other_fits first second ne = (
   λ t. part_below (h * b + low) (k * b + other) r s d e first second (wider h k low other b fits (ltb-true h k t)),
   λ lt. ⊎_elim
-  (λ (up : h < k). lt-ltb h k up)
-  (λ (down : k ≤ h).
-  let less : k < h = ⊎_elim (λ (x : k < h). x) (λ (y : h ≤ k). absurd (ne (omega arith))) (cases_lt k h) in
-  let back : ((k * b + other) * e + s) * d < ((h * b + low) * d + r) * e = part_below (k * b + other) (h * b + low) s r e d second first (wider k h other low b other_fits less) in
-  absurd (omega arith))
-  (cases_lt h k),
+      (λ (up : h < k). lt-ltb h k up)
+      (λ (down : k ≤ h).
+      let less : k < h = ⊎_elim (λ (x : k < h). x) (λ (y : h ≤ k). absurd (ne (omega arith))) (cases_lt k h) in
+      let back : ((k * b + other) * e + s) * d < ((h * b + low) * d + r) * e = part_below (k * b + other) (h * b + low) s r e d second first (wider k h other low b other_fits less) in
+      absurd (omega arith))
+      (cases_lt h k),
 )
 
 -- the first digits are the same, and the second ones differ
@@ -153,12 +153,12 @@ by_low h k low other r s d e b first second same ne =
     let heads : h * b ≡ k * b = ap (λ x. x * b) same in (
       λ t. let lt : low < other = ltb-true low other t in part_below (h * b + low) (k * b + other) r s d e first second (omega arith),
       λ lt. ⊎_elim
-      (λ (up : low < other). lt-ltb low other up)
-      (λ (down : other ≤ low).
-      let less : other < low = ⊎_elim (λ (x : other < low). x) (λ (y : low ≤ other). absurd (ne (omega arith))) (cases_lt other low) in
-      let back : ((k * b + other) * e + s) * d < ((h * b + low) * d + r) * e = part_below (k * b + other) (h * b + low) s r e d second first (omega arith) in
-      absurd (omega arith))
-      (cases_lt low other),
+          (λ (up : low < other). lt-ltb low other up)
+          (λ (down : other ≤ low).
+          let less : other < low = ⊎_elim (λ (x : other < low). x) (λ (y : low ≤ other). absurd (ne (omega arith))) (cases_lt other low) in
+          let back : ((k * b + other) * e + s) * d < ((h * b + low) * d + r) * e = part_below (k * b + other) (h * b + low) s r e d second first (omega arith) in
+          absurd (omega arith))
+          (cases_lt low other),
     )
 
 -- the whole numbers are the same
@@ -185,9 +185,9 @@ module _ (r : Bool) (t u x y d e s other_s : ℕ) (p q : ℚ) (hp : none ≤ℚ 
 
   pub test_no : OnFalse r ((whole (pos u) *ℚ q) ≤ℚ (whole (pos t) *ℚ p))
   test_no = OnFalse_from r _ (λ fails. elim (Order.le_or_lt (whole (pos u) *ℚ q) (whole (pos t) *ℚ p)) [
-      inl h ↦ h
+    | inl h ↦ h
     | inr less ↦ absurd (refused fails (lt_multiple t u p q hp hq less))
-    ])
+  ])
     where
       refused : r ≡ false → (t * nat_abs p.num) * q.den < (u * nat_abs q.num) * p.den → ⊥
       refused fails lt = let yes : r ≡ true = test.1 (omega (arith, left_side, right_side)) in cc

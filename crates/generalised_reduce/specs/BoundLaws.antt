@@ -34,20 +34,22 @@ pub record HasLast (c : List ℤ) : Type 0 where
 last_of : (c : List ℤ) → (c ≡ zeros integers (length c)) ⊎ HasLast c
 last_of [] = inl refl
 last_of (a ∷ c) = elim (last_of c) [
-    inl none_there ↦ elim (is_zero a) [
-      inl z ↦ inl (ap₂ (λ (x : ℤ) (l : List ℤ). x ∷ l) z none_there)
+  | inl none_there ↦ elim (is_zero a) [
+    | inl z ↦ inl (ap₂ (λ (x : ℤ) (l : List ℤ). x ∷ l) z none_there)
     | inr n ↦ inr (record { place = 0; inside = omega arith; some = n; rest = λ j lt. after_first a c j lt none_there })
-    ]
-  | inr last ↦ inr (record { place = suc last.place; inside = omega (arith, last.inside); some = last.some; rest = λ j lt. later a c last j lt })
   ]
+  | inr last ↦ inr (record { place = suc last.place; inside = omega (arith, last.inside); some = last.some; rest = λ j lt. later a c last j lt })
+]
   where
     is_zero : (a : ℤ) → (a ≡ pos 0) ⊎ (a ≢ pos 0)
     is_zero (pos zero) = inl refl
     is_zero (pos (suc n)) = inr (λ e. absurd (omega (arith, ints, e)))
     is_zero (negsuc n) = inr (λ e. absurd (omega (arith, ints, e)))
+
     after_first : (a : ℤ) (c : List ℤ) (j : ℕ) → 0 < j → c ≡ zeros integers (length c) → get_or (a ∷ c) j (pos 0) ≡ pos 0
     after_first a c zero lt e = absurd (omega arith)
     after_first a c (suc j) lt e = ap (λ l. get_or l j (pos 0)) e ∙ Matrix.zeros-at integers (length c) j
+
     later : (a : ℤ) (c : List ℤ) (last : HasLast c) (j : ℕ) → suc last.place < j → get_or (a ∷ c) j (pos 0) ≡ pos 0
     later a c last zero lt = absurd (omega arith)
     later a c last (suc j) lt = last.rest j (omega arith)
@@ -97,6 +99,7 @@ used_last (a ∷ c) (row ∷ rows) (suc k) y y' h i rest agree =
   where
     heads : dot rationals row y ∷ times_vector rationals (take k rows) y ≡ dot rationals row y' ∷ times_vector rationals (take k rows) y' → dot rationals row y ≡ dot rationals row y'
     heads q = cc
+
     tails : dot rationals row y ∷ times_vector rationals (take k rows) y ≡ dot rationals row y' ∷ times_vector rationals (take k rows) y' → times_vector rationals (take k rows) y ≡ times_vector rationals (take k rows) y'
     tails q = cc
 
@@ -121,8 +124,10 @@ module _ (p : Polytope) (rows : List (List ℚ)) (c : List ℤ) (form : List ℤ
     where
       signs : (k v : ℚ) → neg_ℚ k *ℚ neg_ℚ v ≡ k *ℚ v
       signs k v = ring rationals (k ∷ v ∷ []) (search reads depth 30) (search reads depth 30) refl
+
       size : none ≤ℚ v
       size = width_nonneg p (take last.place rows) (form_at rows last.place) v is
+
       by_sign : (a : ℤ) → get_or c last.place (pos 0) ≡ a → v ≤ℚ w
       by_sign (pos zero) e = absurd (last.some e)
       by_sign (pos (suc n)) e =
@@ -177,8 +182,10 @@ first_row_within p m r g wide spans count many widths neighbours form w long som
   where
     c : List ℤ
     c = values_at form m
+
     flat_form : c ≡ zeros integers (length c) → form ≡ zeros integers p.coordinates
     flat_form flat = sym (spans form long) ∙ ap (λ y. combination integers p.coordinates y m.u) flat ∙ combination-zeros p.coordinates (length c) m.u wide
+
     bound : HasLast c → IsAtMost p [] (form_at (forms_of m) 0) (whole (pos (4 ^ (r - 1))) *ℚ w)
     bound last y y' pair =
         let inside : last.place < r = omega (arith, last.inside, many form) in

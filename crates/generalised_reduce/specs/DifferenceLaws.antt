@@ -71,18 +71,19 @@ no_difference p i rows y y' h pair = ap (λ z. z -ℚ dot rationals (get_or rows
 -- a number between two others, times any number, is at most one of the two products
 between : (z a h m : ℚ) → a ≤ℚ h → h ≤ℚ m → ((h *ℚ z) ≤ℚ (m *ℚ z)) ⊎ ((h *ℚ z) ≤ℚ (a *ℚ z))
 between z a h m low high = elim (Order.le_or_lt none z) [
-    inl nonneg ↦ inl (le_as (z *ℚ h) (z *ℚ m) (h *ℚ z) (m *ℚ z) (rationals.mul_comm z h) (rationals.mul_comm z m) (Order.mul_le z h m nonneg high))
+  | inl nonneg ↦ inl (le_as (z *ℚ h) (z *ℚ m) (h *ℚ z) (m *ℚ z) (rationals.mul_comm z h) (rationals.mul_comm z m) (Order.mul_le z h m nonneg high))
   | inr negative ↦ inr (le_as (neg_ℚ (neg_ℚ z *ℚ h)) (neg_ℚ (neg_ℚ z *ℚ a)) (h *ℚ z) (a *ℚ z) (signs z h) (signs z a) (Order.neg_le (neg_ℚ z *ℚ a) (neg_ℚ z *ℚ h) (Order.mul_le (neg_ℚ z) a h (opposite z negative) low)))
-  ]
+]
   where
     signs : (z h : ℚ) → neg_ℚ (neg_ℚ z *ℚ h) ≡ h *ℚ z
     signs z h = ring rationals (z ∷ h ∷ []) (search reads depth 30) (search reads depth 30) refl
+
     opposite : (z : ℚ) → z <ℚ none → none ≤ℚ neg_ℚ z
     opposite z l = subst (λ t. t ≤ℚ neg_ℚ z) (Laws.neg_zero rationals) (Order.neg_le z none (Order.le_of_lt z none l))
 
 -- so a sum with it is at most what bounds both sums
 pub between_bounded : (x z a h m w : ℚ) → a ≤ℚ h → h ≤ℚ m → (x +ℚ a *ℚ z) ≤ℚ w → (x +ℚ m *ℚ z) ≤ℚ w → (x +ℚ h *ℚ z) ≤ℚ w
 between_bounded x z a h m w low high first second = elim (between z a h m low high) [
-    inl up ↦ Order.le_trans (x +ℚ h *ℚ z) (x +ℚ m *ℚ z) w (Order.add_le x x (h *ℚ z) (m *ℚ z) (Order.le_refl x) up) second
+  | inl up ↦ Order.le_trans (x +ℚ h *ℚ z) (x +ℚ m *ℚ z) w (Order.add_le x x (h *ℚ z) (m *ℚ z) (Order.le_refl x) up) second
   | inr down ↦ Order.le_trans (x +ℚ h *ℚ z) (x +ℚ a *ℚ z) w (Order.add_le x x (h *ℚ z) (a *ℚ z) (Order.le_refl x) down) first
-  ]
+]

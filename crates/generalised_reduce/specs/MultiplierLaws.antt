@@ -59,6 +59,7 @@ meets_last n (first ∷ fixed) row y y' w l e agree =
   where
     heads : dot rationals first y ∷ times_vector rationals fixed y ≡ dot rationals first y' ∷ times_vector rationals fixed y' → dot rationals first y ≡ dot rationals first y'
     heads q = cc
+
     tails : dot rationals first y ∷ times_vector rationals fixed y ≡ dot rationals first y' ∷ times_vector rationals fixed y' → times_vector rationals fixed y ≡ times_vector rationals fixed y'
     tails q = cc
 
@@ -73,7 +74,7 @@ abbrev pub place_of : Polytope → ℕ → ℕ
 place_of p i = (length p.limits + length p.limits) + (i + i)
 
 module _ (p : Polytope) (fixed : List (List ℚ)) (row form weights high low : List ℚ) (value : ℚ) (w : HasWidth p.coordinates p.rows) (v : HasWidth p.coordinates fixed) (l : length row ≡ p.coordinates) (f : length form ≡ p.coordinates)
-  (shown : IsLeastAt (pair_system p (fixed ++ row ∷ [])) (pair_form form) (high ++ low) (neg_ℚ value) weights) where
+    (shown : IsLeastAt (pair_system p (fixed ++ row ∷ [])) (pair_form form) (high ++ low) (neg_ℚ value) weights) where
   -- there the form has no greater width under the rows before
   pub no_wider_at_fraction : IsAtMost p fixed (add rationals form (scale rationals (fraction_at weights (place_of p (length fixed))) row)) value
   no_wider_at_fraction y y' pair =
@@ -103,6 +104,7 @@ module _ (p : Polytope) (fixed : List (List ℚ)) (row form weights high low : L
     where
       bracketed : (m k : ℕ) → m + (m + k) ≡ (m + m) + k
       bracketed m k = omega arith
+
       gone : (value more less d : ℚ) → (value +ℚ (more *ℚ d +ℚ less *ℚ neg_ℚ d)) +ℚ (less -ℚ more) *ℚ d ≡ value
       gone value more less d = ring rationals (value ∷ more ∷ less ∷ d ∷ []) (search reads depth 40) (search reads depth 40) refl
 

@@ -54,10 +54,10 @@ module _ (p : Polytope) (rows : List (List ℚ)) (i : ℕ) (wide : HasWidth p.co
       let there : IsAtMost p (take i rows) (raised rows i a) w = looser (raised rows i a) v w least at in
       let order : low ≤ℤ high = Order.le_from_whole low high (Order.le_trans (whole low) a (whole high) above below) in
       elim (Order.le_or_lt (whole low) (whole k)) [
-        inr under ↦ tested low w (le_refl low) order (between_multiples (whole k) (whole low) a v w (Order.le_of_lt (whole k) (whole low) under) above h there)
-      | inl over ↦ elim (Order.le_or_lt (whole k) (whole high)) [
-          inl inside ↦ tested k w (Order.le_from_whole low k over) (Order.le_from_whole k high inside) h
-        | inr past ↦ tested high w order (le_refl high) (between_multiples a (whole high) (whole k) v w below (Order.le_of_lt (whole high) (whole k) past) there h)
+        | inr under ↦ tested low w (le_refl low) order (between_multiples (whole k) (whole low) a v w (Order.le_of_lt (whole k) (whole low) under) above h there)
+        | inl over ↦ elim (Order.le_or_lt (whole k) (whole high)) [
+          | inl inside ↦ tested k w (Order.le_from_whole low k over) (Order.le_from_whole k high inside) h
+          | inr past ↦ tested high w order (le_refl high) (between_multiples a (whole high) (whole k) v w below (Order.le_of_lt (whole high) (whole k) past) there h)
         ]
       ]
     where
@@ -112,6 +112,7 @@ two_halves = double (inv_ℚ (whole (pos 2))) ∙ mul_inv (whole (pos 2)) two
   where
     double : (h : ℚ) → h +ℚ h ≡ whole (pos 2) *ℚ h
     double h = ring rationals (h ∷ []) (search reads depth 30) (search reads depth 30) refl
+
     two : ¬ (whole (pos 2) ≡ whole (pos 0))
     two e = absurd (omega (arith, ints, Order.le_from_whole (pos 2) (pos 0) (subst (λ z. z ≤ℚ whole (pos 0)) (sym e) (Order.le_refl (whole (pos 0))))))
 
@@ -150,8 +151,10 @@ near_above a h =
   where
     rest : (x y : ℚ) → neg_ℚ (x -ℚ y) +ℚ whole (pos 1) ≡ (y +ℚ whole (pos 1)) -ℚ x
     rest x y = ring rationals (x ∷ y ∷ []) (search reads depth 30) (search reads depth 30) refl
+
     cancelled : (x : ℚ) → neg_ℚ x +ℚ (x +ℚ x) ≡ x
     cancelled x = ring rationals (x ∷ []) (search reads depth 30) (search reads depth 30) refl
+
     halves : neg_ℚ half +ℚ whole (pos 1) ≡ half
     halves = ap (λ z. neg_ℚ half +ℚ z) (sym two_halves) ∙ cancelled half
 
@@ -163,13 +166,13 @@ near a = elim (Order.le_or_lt (a -ℚ whole (floor a)) half) [ inl low ↦ (floo
 -- a product with a number of at most one half is at most half of the other's size
 half_product : (d z b : ℚ) → neg_ℚ half ≤ℚ d → d ≤ℚ half → neg_ℚ b ≤ℚ z → z ≤ℚ b → (d *ℚ z) ≤ℚ (half *ℚ b)
 half_product d z b low high bottom top = elim (Order.le_or_lt none z) [
-    inl nonneg ↦ Order.le_trans (d *ℚ z) (half *ℚ z) (half *ℚ b) (le_as (z *ℚ d) (z *ℚ half) (d *ℚ z) (half *ℚ z) (rationals.mul_comm z d) (rationals.mul_comm z half) (Order.mul_le z d half nonneg high)) (Order.mul_le half z b half_nonneg top)
+  | inl nonneg ↦ Order.le_trans (d *ℚ z) (half *ℚ z) (half *ℚ b) (le_as (z *ℚ d) (z *ℚ half) (d *ℚ z) (half *ℚ z) (rationals.mul_comm z d) (rationals.mul_comm z half) (Order.mul_le z d half nonneg high)) (Order.mul_le half z b half_nonneg top)
   | inr negative ↦
-    let size : none ≤ℚ neg_ℚ z = subst (λ t. t ≤ℚ neg_ℚ z) (Laws.neg_zero rationals) (Order.neg_le z none (Order.le_of_lt z none negative)) in
-    let less : neg_ℚ d ≤ℚ half = subst (λ t. neg_ℚ d ≤ℚ t) (Laws.neg_neg rationals half) (Order.neg_le (neg_ℚ half) d low) in
-    let under : neg_ℚ z ≤ℚ b = subst (λ t. neg_ℚ z ≤ℚ t) (Laws.neg_neg rationals b) (Order.neg_le (neg_ℚ b) z bottom) in
-    Order.le_trans (d *ℚ z) (half *ℚ neg_ℚ z) (half *ℚ b) (le_as (neg_ℚ z *ℚ neg_ℚ d) (neg_ℚ z *ℚ half) (d *ℚ z) (half *ℚ neg_ℚ z) (signs z d) (rationals.mul_comm (neg_ℚ z) half) (Order.mul_le (neg_ℚ z) (neg_ℚ d) half size less)) (Order.mul_le half (neg_ℚ z) b half_nonneg under)
-  ]
+      let size : none ≤ℚ neg_ℚ z = subst (λ t. t ≤ℚ neg_ℚ z) (Laws.neg_zero rationals) (Order.neg_le z none (Order.le_of_lt z none negative)) in
+      let less : neg_ℚ d ≤ℚ half = subst (λ t. neg_ℚ d ≤ℚ t) (Laws.neg_neg rationals half) (Order.neg_le (neg_ℚ half) d low) in
+      let under : neg_ℚ z ≤ℚ b = subst (λ t. neg_ℚ z ≤ℚ t) (Laws.neg_neg rationals b) (Order.neg_le (neg_ℚ b) z bottom) in
+      Order.le_trans (d *ℚ z) (half *ℚ neg_ℚ z) (half *ℚ b) (le_as (neg_ℚ z *ℚ neg_ℚ d) (neg_ℚ z *ℚ half) (d *ℚ z) (half *ℚ neg_ℚ z) (signs z d) (rationals.mul_comm (neg_ℚ z) half) (Order.mul_le (neg_ℚ z) (neg_ℚ d) half size less)) (Order.mul_le half (neg_ℚ z) b half_nonneg under)
+]
   where
     signs : (z d : ℚ) → neg_ℚ z *ℚ neg_ℚ d ≡ d *ℚ z
     signs z d = ring rationals (z ∷ d ∷ []) (search reads depth 30) (search reads depth 30) refl
@@ -180,21 +183,24 @@ neighbour_bound p rows i v a wide inside reduced at =
     let b : ℚ = reduced.width_before in
     let m = near a in
     let bound : IsAtMost p (take i rows) (raised rows i (whole m.0)) (v +ℚ half *ℚ b) = λ y y' pair.
-      let x : ℚ = difference (form_at rows (suc i)) y y' in
-      let z : ℚ = difference (form_at rows i) y y' in
-      let first : (x +ℚ a *ℚ z) ≤ℚ v = subst (λ d. d ≤ℚ v) (at_multiple p rows i wide inside a y y') (at y y' pair) in
-      let second : ((whole m.0 -ℚ a) *ℚ z) ≤ℚ (half *ℚ b) = half_product (whole m.0 -ℚ a) z b m.1.low m.1.high (at_least p (take i rows) (form_at rows i) y y' b reduced.is_before.most pair) (reduced.is_before.most y y' pair) in
-      le_as ((x +ℚ a *ℚ z) +ℚ (whole m.0 -ℚ a) *ℚ z) (v +ℚ half *ℚ b) (difference (raised rows i (whole m.0)) y y') (v +ℚ half *ℚ b) (together x z a (whole m.0) ∙ sym (at_multiple p rows i wide inside (whole m.0) y y')) refl (Order.add_le (x +ℚ a *ℚ z) v ((whole m.0 -ℚ a) *ℚ z) (half *ℚ b) first second) in
+    let x : ℚ = difference (form_at rows (suc i)) y y' in
+    let z : ℚ = difference (form_at rows i) y y' in
+    let first : (x +ℚ a *ℚ z) ≤ℚ v = subst (λ d. d ≤ℚ v) (at_multiple p rows i wide inside a y y') (at y y' pair) in
+    let second : ((whole m.0 -ℚ a) *ℚ z) ≤ℚ (half *ℚ b) = half_product (whole m.0 -ℚ a) z b m.1.low m.1.high (at_least p (take i rows) (form_at rows i) y y' b reduced.is_before.most pair) (reduced.is_before.most y y' pair) in
+    le_as ((x +ℚ a *ℚ z) +ℚ (whole m.0 -ℚ a) *ℚ z) (v +ℚ half *ℚ b) (difference (raised rows i (whole m.0)) y y') (v +ℚ half *ℚ b) (together x z a (whole m.0) ∙ sym (at_multiple p rows i wide inside (whole m.0) y y')) refl (Order.add_le (x +ℚ a *ℚ z) v ((whole m.0 -ℚ a) *ℚ z) (half *ℚ b) first second) in
     let four : none ≤ℚ whole (pos 4) = Order.whole_le (pos 0) (pos 4) (omega (arith, ints)) in
     let three : (whole (pos 3) *ℚ b) ≤ℚ (whole (pos 4) *ℚ (v +ℚ half *ℚ b)) = Order.le_trans (whole (pos 3) *ℚ b) (whole (pos 4) *ℚ reduced.width) (whole (pos 4) *ℚ (v +ℚ half *ℚ b)) reduced.ratio (Order.mul_le (whole (pos 4)) reduced.width (v +ℚ half *ℚ b) four (reduced.least m.0 (v +ℚ half *ℚ b) bound)) in
     le_as (whole (pos 3) *ℚ b +ℚ neg_ℚ (whole (pos 2) *ℚ b)) (whole (pos 4) *ℚ (v +ℚ half *ℚ b) +ℚ neg_ℚ (whole (pos 2) *ℚ b)) b (whole (pos 4) *ℚ v) (one_left b) (two_gone v b) (Order.add_le_right (whole (pos 3) *ℚ b) (whole (pos 4) *ℚ (v +ℚ half *ℚ b)) (neg_ℚ (whole (pos 2) *ℚ b)) three)
   where
     together : (x z a m : ℚ) → (x +ℚ a *ℚ z) +ℚ (m -ℚ a) *ℚ z ≡ x +ℚ m *ℚ z
     together x z a m = ring rationals (x ∷ z ∷ a ∷ m ∷ []) (search reads depth 30) (search reads depth 30) refl
+
     one_left : (b : ℚ) → whole (pos 3) *ℚ b +ℚ neg_ℚ (whole (pos 2) *ℚ b) ≡ b
     one_left b = ring rationals (b ∷ []) (search reads depth 30) (search reads depth 30) refl
+
     halves : (v b h : ℚ) → whole (pos 4) *ℚ (v +ℚ h *ℚ b) +ℚ neg_ℚ (whole (pos 2) *ℚ b) ≡ whole (pos 4) *ℚ v +ℚ whole (pos 2) *ℚ (((h +ℚ h) -ℚ whole (pos 1)) *ℚ b)
     halves v b h = ring rationals (v ∷ b ∷ h ∷ []) (search reads depth 40) (search reads depth 40) refl
+
     two_gone : (v b : ℚ) → whole (pos 4) *ℚ (v +ℚ half *ℚ b) +ℚ neg_ℚ (whole (pos 2) *ℚ b) ≡ whole (pos 4) *ℚ v
     two_gone v b = halves v b half ∙ ap (λ t. whole (pos 4) *ℚ v +ℚ whole (pos 2) *ℚ ((t -ℚ whole (pos 1)) *ℚ b)) two_halves ∙ gone v b
       where

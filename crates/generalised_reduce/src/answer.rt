@@ -19,18 +19,11 @@ pub struct ThinBasis {
 #[derive(Debug, Drop)]
 pub enum ThinExcuse {
     /// A linear program of the next width test stops, or its gauge is wide.
-    Lp {
-        moves: Steps,
-        lp: LpExcuse,
-    },
+    Lp { moves: Steps, lp: LpExcuse },
     /// These are as many swaps as are made, and another is due.
-    ManySwaps {
-        moves: Steps,
-    },
+    ManySwaps { moves: Steps },
     /// A number of the next width test, or of the next move, leaves its range.
-    Wide {
-        moves: Steps,
-    },
+    Wide { moves: Steps },
 }
 
 /// Why a basis was not reduced.

@@ -1,6 +1,5 @@
 //! The reduction at hand.
 ghost use Rattle.std.specs.Prelude.{◌≡◌, ◌+◌, ◌<◌, ◌≤◌, ◌^◌, ◌++◌, [], ◌∷◌, suc, length, take, IfErr, IfOk, OnOk};
-
 ghost use Rattle.norm_gauge.specs.Widths.{polytope_of};
 ghost use Rattle.unimodular_pair.specs.Gathering.{unit_vectors};
 ghost use Rattle.unimodular_pair.specs.Moves.{CombinationStays, combined, exchanged};

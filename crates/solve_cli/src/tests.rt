@@ -309,14 +309,6 @@ fn words_are_obeyed(rt: HostRuntime) -> Result<(), Fail> {
         ("solve --nodes 1001 m p", TWO_COINS, 3, "WORDS\n"),
         ("solve --nodes 5 --nodes 5 m p", TWO_COINS, 3, "WORDS\n"),
         ("solve --lanes 1 m p", TWO_COINS, 3, "WORDS\n"),
-        ("market 0 3 1 m p", TWO_COINS, 3, "WORDS\n"),
-        ("market 11 3 1 m p", TWO_COINS, 3, "WORDS\n"),
-        ("market 2 101 1 m p", TWO_COINS, 3, "WORDS\n"),
-        ("market 2 3 2147483647 m p", TWO_COINS, 3, "WORDS\n"),
-        ("market 2 03 1 m p", TWO_COINS, 3, "WORDS\n"),
-        ("market 2 3 1 m m", TWO_COINS, 3, "WORDS\n"),
-        ("market 2 3 m p", TWO_COINS, 3, "WORDS\n"),
-        ("market --fixed 2 3 1 m p", TWO_COINS, 3, "WORDS\n"),
     ] {
         let mut desk = MemDesk::new(alloc);
         desk.add_input("m", text.as_bytes())?;
@@ -758,6 +750,27 @@ fn a_market_that_is_not_put_has_no_proof(rt: HostRuntime) -> Result<(), Fail> {
             "where call {call} fails"
         );
         assert!(rt; desk.said().is_empty(), "where call {call} fails");
+    }
+    Ok(())
+}
+
+#[test]
+fn the_words_of_a_market_are_judged(rt: HostRuntime) -> Result<(), Fail> {
+    let alloc = rt.alloc();
+    for line in [
+        "market 0 3 1 m p",
+        "market 11 3 1 m p",
+        "market 2 101 1 m p",
+        "market 2 3 2147483647 m p",
+        "market 2 03 1 m p",
+        "market 2 3 1 m m",
+        "market 2 3 m p",
+        "market --fixed 2 3 1 m p",
+    ] {
+        let mut desk = MemDesk::new(alloc);
+        let status = run(alloc, &words(alloc, line)?, &mut desk);
+        assert_eq!(rt; status.code(), 3, "of {line}");
+        assert!(rt; desk.written("m").is_empty(), "of {line}");
     }
     Ok(())
 }
