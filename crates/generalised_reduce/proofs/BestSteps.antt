@@ -1,5 +1,5 @@
 -- What the search for the best multiple uses.
-use Rattle.std.proofs.Common.{◌≡◌, ◌≢◌, ◌⊎◌, inl, inr, ℕ, suc, ◌+◌, ◌*◌, ◌^◌, ◌<◌, ◌≤◌, ℤ, pos, negsuc, nat_abs, ◌+ℤ◌, ◌-ℤ◌, ◌≤ℤ◌, ◌<ℤ◌, FitsSigned, to_z, of_z, List, [], ◌∷◌, ◌++◌, length, get_or, map, take, refl, sym, ap, subst, ◌∙◌, arith, All, length-append}
+use Rattle.std.proofs.Common.{◌≡◌, ◌⊎◌, inl, inr, ℕ, suc, ◌+◌, ◌*◌, ◌^◌, ◌<◌, ℤ, pos, negsuc, nat_abs, ◌+ℤ◌, ◌-ℤ◌, ◌≤ℤ◌, ◌<ℤ◌, FitsSigned, to_z, of_z, List, [], ◌∷◌, ◌++◌, length, get_or, map, take, refl, sym, ap, subst, ◌∙◌, arith, All, length-append}
 use Rattle.std.specs.Int.{w128}
 use Rattle.std.proofs.lemmas.Int.{ints, to_z-of_z, fits_signed_from_abs}
 use Rattle.exact_math.specs.IntegerRing.{linear}
@@ -24,7 +24,7 @@ use Rattle.unimodular_pair.specs.Pairs.{AreInverse, Matrices}
 use Rattle.generalised_reduce.specs.BoundLaws.{forms_wide}
 use Rattle.generalised_reduce.specs.DifferenceLaws.{none}
 use Rattle.generalised_reduce.specs.MoveLaws.{raised-none}
-use Rattle.generalised_reduce.specs.Moves.{HaveWidths, IsCandidate, IsCombination, MayImprove}
+use Rattle.generalised_reduce.specs.Moves.{HaveWidths, IsCandidate}
 use Rattle.generalised_reduce.specs.MultiplierLaws.{fraction_at, no_wider_at_multiple, place_of, weights_shown}
 use Rattle.generalised_reduce.specs.Ready.{Covers, IsBestMultiple, IsKept, IsLeastMultiple}
 use Rattle.generalised_reduce.specs.Reduced.{forms_of, form_at, raised}

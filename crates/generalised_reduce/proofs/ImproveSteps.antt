@@ -14,7 +14,7 @@ use Rattle.unimodular_pair.specs.declared.step.Step.TheVariants.{Swap, Combine}
 use Rattle.generalised_reduce.specs.DifferenceLaws.{none}
 use Rattle.generalised_reduce.specs.Halts.{HaltsAt, WhereWide, most_swaps}
 use Rattle.generalised_reduce.specs.MoveLaws.{front-combined, front-exchanged, same_before}
-use Rattle.generalised_reduce.specs.Moves.{IsSwap, swaps_in}
+use Rattle.generalised_reduce.specs.Moves.{IsSwap}
 use Rattle.generalised_reduce.specs.Ready.{IsBestMultiple, IsLeastWide}
 use Rattle.generalised_reduce.specs.Reduced.{forms_of, form_at, IsReducedAt, IsLovaszScarfReduced, IsWithinFactor}
 use Rattle.generalised_reduce.specs.ReducedLaws.{width_nonneg}

@@ -1,9 +1,9 @@
 -- What the making of a form with a multiple added uses.
-use Rattle.std.proofs.Common.{◌≡◌, ℕ, zero, suc, ◌+◌, ◌<◌, ◌≤◌, ℤ, pos, ◌+ℤ◌, ◌*ℤ◌, List, [], ◌∷◌, ◌++◌, length, get_or, take, refl, sym, ap, ap₂, subst, ◌∙◌, arith, All}
+use Rattle.std.proofs.Common.{◌≡◌, ℕ, ◌+◌, ◌<◌, ◌≤◌, ℤ, pos, ◌+ℤ◌, ◌*ℤ◌, List, [], ◌∷◌, ◌++◌, length, get_or, take, refl, sym, ap, ap₂, subst, ◌∙◌, arith, All}
 use Rattle.std.proofs.lemmas.List.{take_more, take_all}
 use Rattle.std.proofs.lemmas.List.Elements.{All-append, All-nil, All-cons}
 use Rattle.exact_math.specs.Ring.{integers}
-use Rattle.exact_vectors.specs.Vectors.{add, scale}
+use Rattle.exact_vectors.specs.Vectors.{scale}
 use Rattle.exact_vectors.specs.MatrixLaws as Matrix
 use Rattle.frac128.specs.Range.{IsNarrow}
 use Rattle.spaces.specs.Multiples.{with_multiple}

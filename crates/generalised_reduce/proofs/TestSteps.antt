@@ -1,22 +1,21 @@
 -- What the width tests use.
-use Rattle.std.proofs.Common.{◌≡◌, ℕ, suc, ◌+◌, ◌*◌, ◌^◌, ◌<◌, ◌≤◌, ℤ, pos, List, [], ◌∷◌, length, get_or, take, refl, sym, ap, ap₂, subst, ◌∙◌, arith, mul-le-mul, All, inl, inr}
-use Rattle.std.proofs.lemmas.List.{length-map, get_or-map}
-use Rattle.exact_math.specs.Rational.{ℚ, whole}
+use Rattle.std.proofs.Common.{◌≡◌, ℕ, suc, ◌+◌, ◌*◌, ◌<◌, ◌≤◌, ℤ, List, [], length, get_or, take, sym, ap, subst, ◌∙◌, arith, mul-le-mul, All, inl}
+use Rattle.exact_math.specs.Rational.{ℚ}
 use Rattle.frac128.specs.Range.{IsNarrow}
 use Rattle.spaces.specs.Tables.{Table, rows_in, row_at}
 use Rattle.spaces.specs.TableLaws as Table
 use Rattle.lp_dict.specs.Sizes.{MeetsCondition}
-use Rattle.lp_dict.specs.Systems.{wholes, whole_rows}
+use Rattle.lp_dict.specs.Systems.{whole_rows}
 use Rattle.lp_solve.specs.declared.answer.LpStop.{LpStop}
 use Rattle.lp_solve.specs.declared.answer.LpStop.TheVariants as stops
 use Rattle.norm_gauge.specs.Gauges.{IsGauge, WidthStopIs}
-use Rattle.norm_gauge.specs.Widths.{AreNarrow, Polytope, first_rows}
+use Rattle.norm_gauge.specs.Widths.{Polytope, first_rows}
 use Rattle.norm_gauge.specs.declared.gauge.Gauge.{Gauge}
 use Rattle.unimodular_pair.specs.Pairs.{Matrices}
 use Rattle.generalised_reduce.specs.Halts.{SearchHalts, WhereWide, halt_of}
 use Rattle.generalised_reduce.specs.Moves.{FormStays, IsCandidate, IsTest}
-use Rattle.generalised_reduce.specs.Ready.{IsReady, FitsSystem}
-use Rattle.generalised_reduce.specs.Reduced.{forms_of, form_at, raised}
+use Rattle.generalised_reduce.specs.Ready.{IsReady}
+use Rattle.generalised_reduce.specs.Reduced.{forms_of}
 use Rattle.generalised_reduce.specs.declared.halt.Halt.{Halt}
 use Rattle.generalised_reduce.specs.declared.halt.Halt.TheVariants as halts
 

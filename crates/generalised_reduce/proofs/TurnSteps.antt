@@ -1,7 +1,7 @@
 -- What the turns of a reduction use.
-use Rattle.std.proofs.Common.{◌≡◌, ◌≢◌, ⊎_elim, ℕ, zero, suc, ◌+◌, ◌-◌, ◌*◌, ◌<◌, ◌≤◌, ℤ, pos, ◌+ℤ◌, List, [], ◌∷◌, ◌++◌, length, get_or, set, take, map, refl, sym, ap, ap₂, subst, ◌∙◌, arith, All, length-append, inr, lit<}
+use Rattle.std.proofs.Common.{◌≡◌, ⊎_elim, ℕ, zero, suc, ◌+◌, ◌-◌, ◌*◌, ◌<◌, ◌≤◌, ℤ, pos, ◌+ℤ◌, List, [], ◌∷◌, ◌++◌, length, get_or, set, take, map, refl, sym, ap, ap₂, subst, ◌∙◌, arith, All, length-append, inr, lit<}
 use Rattle.std.proofs.lemmas.Bool.{cases_lt}
-use Rattle.std.proofs.lemmas.List.{get_or-take, length-map, length-set, length-take}
+use Rattle.std.proofs.lemmas.List.{get_or-take, length-map, length-take}
 use Rattle.std.proofs.lemmas.List.Elements.{All-cons, All-nil, All-set}
 use Rattle.std.proofs.Math.ListN.{get_or-append}
 use Rattle.std.proofs.Math.Seq.{get_or-append_seam}
@@ -28,7 +28,7 @@ use Rattle.generalised_reduce.specs.BoundLaws.{forms_wide}
 use Rattle.generalised_reduce.specs.Halts.{AreMade, HaltsAt, SearchHalts, WhereWide, most_swaps}
 use Rattle.generalised_reduce.specs.MoveLaws.{Leads-push, front-combined, front-exchanged, raised-none, row-combined, row-exchanged, rows-exchanged, same_at, same_before, swaps_in-combine, swaps_in-swap}
 use Rattle.generalised_reduce.specs.Moves.{IsCombination, IsSwap, swaps_in}
-use Rattle.generalised_reduce.specs.Ready.{FitsSystem, IsBestMultiple, IsLeastWide}
+use Rattle.generalised_reduce.specs.Ready.{IsBestMultiple, IsLeastWide}
 use Rattle.generalised_reduce.specs.Reduced.{forms_of, form_at, raised, IsReducedAt, IsLovaszScarfReduced}
 use Rattle.generalised_reduce.specs.States.{AreGauges, IsReducedBelow, Stands, progress}
 use Rattle.generalised_reduce.specs.ThinLaws.{width_of}

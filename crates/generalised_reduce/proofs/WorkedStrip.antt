@@ -1,5 +1,5 @@
 -- The system of the test has points, and they are bounded.
-use Rattle.std.proofs.Common.{◌≡◌, ℕ, zero, suc, ◌+◌, ◌*◌, ◌^◌, ◌<◌, ◌≤◌, ℤ, pos, negsuc, nat_abs, ◌≤ℤ◌, List, [], ◌∷◌, length, refl, sym, ap, subst, ◌∙◌, arith, All}
+use Rattle.std.proofs.Common.{◌≡◌, ℕ, ◌+◌, ◌^◌, ◌<◌, ℤ, pos, negsuc, nat_abs, ◌≤ℤ◌, List, [], ◌∷◌, refl, sym, ap, subst, ◌∙◌, arith, All}
 use Rattle.std.proofs.lemmas.List.Elements.{All-nil, All-cons}
 use Rattle.std.proofs.lemmas.Int.{ints}
 use Rattle.exact_math.specs.Rational.{ℚ, whole, ◌+ℚ◌, ◌*ℚ◌, neg_ℚ, ◌≤ℚ◌}
@@ -11,7 +11,7 @@ use Rattle.frac128.specs.Range.{IsNarrow}
 use Rattle.spaces.specs.Tables.{Table}
 use Rattle.lp_dict.specs.Dictionaries.{none}
 use Rattle.lp_dict.specs.Systems.{left_sides, wholes, IsPoint}
-use Rattle.norm_gauge.specs.Widths.{Has, HasBound, IsInhabited, polytope_of}
+use Rattle.norm_gauge.specs.Widths.{Has, HasBound, polytope_of}
 use Rattle.generalised_reduce.specs.DifferenceLaws.{le_as}
 use Rattle.generalised_reduce.specs.Ready.{IsReady}
 use Rattle.generalised_reduce.specs.ReducedLaws.{half, half_nonneg, two_halves}

@@ -1,16 +1,15 @@
 -- Differences of pairs in forms, and what they say of widths.
-use Rattle.std.proofs.Common.{◌≡◌, ℕ, zero, suc, ◌+◌, ◌<◌, ◌≤◌, ℤ, pos, negsuc, List, [], ◌∷◌, length, get_or, take, refl, sym, ap, ap₂, subst, ◌∙◌, arith, ◌⊎◌, inl, inr}
-use Rattle.exact_math.specs.Rational.{ℚ, whole, neg_ℚ, ◌+ℚ◌, ◌-ℚ◌, ◌*ℚ◌, ◌≤ℚ◌, ◌<ℚ◌, floor}
-use Rattle.exact_math.specs.RationalFloor.{floor_le, lt_floor_next}
+use Rattle.std.proofs.Common.{◌≡◌, ℕ, zero, suc, ◌<◌, pos, List, [], ◌∷◌, length, get_or, take, refl, sym, ap, ap₂, subst, ◌∙◌, arith, ◌⊎◌, inl, inr}
+use Rattle.exact_math.specs.Rational.{ℚ, whole, neg_ℚ, ◌+ℚ◌, ◌-ℚ◌, ◌*ℚ◌, ◌≤ℚ◌, ◌<ℚ◌}
 use Rattle.exact_math.specs.RationalOrder as Order
-use Rattle.exact_math.specs.RationalRing.{rationals, whole_add}
+use Rattle.exact_math.specs.RationalRing.{rationals}
 use Rattle.exact_math.specs.RingLaws as Laws
 use Rattle.exact_math.specs.RingSolver.{ring, reads}
 use Rattle.exact_vectors.specs.Vectors.{dot, add, scale}
 use Rattle.exact_vectors.specs.Matrices.{times_vector}
 use Rattle.exact_vectors.specs.DotLaws as Dot
 use Rattle.exact_vectors.specs.MatrixLaws as Matrix
-use Rattle.norm_gauge.specs.Widths.{Polytope, Has, ArePair, IsAtMost, IsWidth, difference}
+use Rattle.norm_gauge.specs.Widths.{Polytope, ArePair, IsAtMost, difference}
 
 -- zero
 abbrev pub none : ℚ

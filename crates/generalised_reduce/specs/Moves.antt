@@ -1,5 +1,5 @@
 -- The moves of generalised reduction, and why it stops.
-use Rattle.std.specs.Prelude.{◌≡◌, ◌≢◌, ℕ, zero, suc, ◌*◌, ◌+◌, ◌<◌, ℤ, pos, ◌+ℤ◌, ◌*ℤ◌, nat_abs, List, [], ◌∷◌, length, get_or, take, ◌⊎◌}
+use Rattle.std.specs.Prelude.{◌≡◌, ℕ, suc, ◌<◌, ℤ, pos, ◌+ℤ◌, ◌*ℤ◌, nat_abs, List, [], ◌∷◌, length, get_or, take, ◌⊎◌}
 use Rattle.exact_math.specs.Rational.{ℚ, whole, ◌≤ℚ◌, ◌<ℚ◌, ◌+ℚ◌, ◌*ℚ◌}
 use Rattle.frac128.specs.Range.{IsNarrow}
 use Rattle.lp_solve.specs.declared.answer.LpExcuse.{LpExcuse}

@@ -1,21 +1,21 @@
 -- The multipliers of a width under rows tell at which multiple of the last of them the width under the rows before is no greater.
-use Rattle.std.proofs.Common.{◌≡◌, ℕ, zero, suc, ◌+◌, ◌<◌, ◌≤◌, pos, List, [], ◌∷◌, ◌++◌, length, get_or, take, refl, sym, ap, ap₂, subst, ◌∙◌, arith, append_assoc, length-append}
+use Rattle.std.proofs.Common.{◌≡◌, ℕ, zero, suc, ◌+◌, ◌<◌, List, [], ◌∷◌, ◌++◌, length, get_or, take, refl, sym, ap, ap₂, subst, ◌∙◌, arith, append_assoc, length-append}
 use Rattle.std.specs.List.{AllZip}
 use Rattle.std.proofs.lemmas.List.{length-take}
-use Rattle.exact_math.specs.Rational.{ℚ, whole, neg_ℚ, ◌+ℚ◌, ◌-ℚ◌, ◌*ℚ◌, ◌≤ℚ◌}
+use Rattle.exact_math.specs.Rational.{ℚ, neg_ℚ, ◌+ℚ◌, ◌-ℚ◌, ◌*ℚ◌, ◌≤ℚ◌}
 use Rattle.exact_math.specs.RationalOrder as Order
 use Rattle.exact_math.specs.RationalRing.{rationals}
 use Rattle.exact_math.specs.RingLaws as Laws
 use Rattle.exact_math.specs.RingSolver.{ring, reads}
-use Rattle.exact_vectors.specs.Vectors.{dot, add, scale, negate}
+use Rattle.exact_vectors.specs.Vectors.{dot, add, scale}
 use Rattle.exact_vectors.specs.Matrices.{HasWidth, times_vector}
 use Rattle.exact_vectors.specs.DotLaws as Dot
 use Rattle.exact_vectors.specs.MatrixLaws as Matrix
 use Rattle.exact_vectors.specs.OrderedVectorLaws as Ordered
 use Rattle.norm_gauge.specs.Gauges.{IsGauge, IsLeastAt, WeightsShow}
 use Rattle.norm_gauge.specs.PairLaws.{meets_but, difference_row, difference_row-negated, agree_meets, pair_rows-wide, HasWidth-more}
-use Rattle.norm_gauge.specs.PairSystems.{differences, no_differences, pair_rows, pair_limits, pair_system, pair_form}
-use Rattle.norm_gauge.specs.Widths.{Polytope, Has, ArePair, IsAtMost, difference}
+use Rattle.norm_gauge.specs.PairSystems.{differences, no_differences, pair_rows, pair_system, pair_form}
+use Rattle.norm_gauge.specs.Widths.{Polytope, IsAtMost, difference}
 use Rattle.norm_gauge.specs.declared.gauge.Gauge.{Gauge}
 use Rattle.generalised_reduce.specs.DifferenceLaws.{none, le_as, difference-raised}
 

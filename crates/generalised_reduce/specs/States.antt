@@ -1,5 +1,5 @@
 -- A reduction at hand.
-use Rattle.std.specs.Prelude.{◌≡◌, ℕ, suc, ◌+◌, ◌-◌, ◌*◌, ◌<◌, ◌≤◌, List, length, get_or, take}
+use Rattle.std.specs.Prelude.{◌≡◌, ℕ, ◌+◌, ◌-◌, ◌*◌, ◌<◌, ◌≤◌, List, length, get_or, take}
 use Rattle.exact_math.specs.Rational.{ℚ}
 use Rattle.norm_gauge.specs.Gauges.{IsGauge}
 use Rattle.norm_gauge.specs.Widths.{Polytope}

@@ -1,5 +1,5 @@
 -- The first row of a reduced basis is thin, as its gauges show.
-use Rattle.std.proofs.Common.{◌≡◌, ℕ, zero, suc, ◌+◌, ◌-◌, ◌^◌, ◌<◌, ◌≤◌, ℤ, pos, List, [], ◌∷◌, length, get_or, take, refl, sym, ap, subst, ◌∙◌, arith}
+use Rattle.std.proofs.Common.{◌≡◌, ℕ, suc, ◌-◌, ◌^◌, ◌<◌, pos, List, [], ◌∷◌, length, get_or, take, sym, subst, ◌∙◌, arith}
 use Rattle.std.proofs.lemmas.List.{length-map}
 use Rattle.exact_math.specs.Rational.{ℚ, whole, ◌*ℚ◌, ◌≤ℚ◌}
 use Rattle.exact_math.specs.RationalOrder as Order
@@ -10,7 +10,6 @@ use Rattle.lp_dict.specs.Systems.{wholes}
 use Rattle.norm_gauge.specs.Gauges.{IsGauge}
 use Rattle.norm_gauge.specs.Widths.{Polytope, IsWidth}
 use Rattle.norm_gauge.specs.declared.gauge.Gauge.{Gauge}
-use Rattle.unimodular_pair.specs.Gathering.{values_at}
 use Rattle.unimodular_pair.specs.GatheringLaws as Values
 use Rattle.unimodular_pair.specs.Pairs.{AreInverse, Matrices}
 use Rattle.unimodular_pair.specs.declared.step.Step.{Step}

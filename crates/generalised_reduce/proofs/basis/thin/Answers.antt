@@ -1,4 +1,4 @@
-use Rattle.std.proofs.Common.{◌≡◌, ap, ◌∙◌}
+use Rattle.std.proofs.Common.{ap, ◌∙◌}
 use Rattle.norm_gauge.specs.Widths.{polytope_of}
 use Rattle.unimodular_pair.specs.Gathering.{unit_vectors}
 use Rattle.generalised_reduce.proofs.ImproveSteps.{thin_at_end}

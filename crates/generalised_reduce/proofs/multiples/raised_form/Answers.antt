@@ -1,4 +1,4 @@
-use Rattle.std.proofs.Common.{◌≡◌, ◌≤◌, ℤ, pos, List, [], ◌∷◌, ◌++◌, length, get_or, ap, rules, arith, sym, subst, ◌∙◌, SFits, to_z, of_z, to_z-of_z, All}
+use Rattle.std.proofs.Common.{◌≡◌, pos, [], ◌∷◌, ◌++◌, get_or, ap, rules, sym, subst, ◌∙◌, SFits, to_z, of_z, to_z-of_z, All}
 use Rattle.std.specs.Int.{w128}
 use Rattle.frac128.specs.Range.{IsNarrow}
 use Rattle.generalised_reduce.proofs.MultipleSteps.{IsRaised, raised_none, raised_more, raised_all}

@@ -1,16 +1,12 @@
-use Rattle.std.proofs.Common.{◌≡◌, ◌<◌, ◌≤◌, suc, pos, length, get_or, refl, sym, ap, ap₂, subst, ◌∙◌, arith, inl, inr, add-one, rules, All, [], SFits, to_z-of_z}
+use Rattle.std.proofs.Common.{◌≡◌, ◌<◌, length, get_or, refl, sym, ap, subst, ◌∙◌, arith, inl, All, []}
 use Rattle.std.proofs.lemmas.Result.{err_from_is_err_and}
 use Rattle.std.proofs.lemmas.List.{length-map}
-use Rattle.std.specs.Int.{w128}
 use Rattle.frac128.specs.Range.{IsNarrow}
 use Rattle.lp_dict.specs.Systems.{wholes}
-use Rattle.spaces.specs.Multiples.{with_multiple}
-use Rattle.exact_math.specs.Rational.{whole}
 use Rattle.norm_gauge.specs.Widths.{first_rows, polytope_of}
-use Rattle.unimodular_pair.specs.PairLaws.{length-with_multiple}
-use Rattle.generalised_reduce.specs.Reduced.{forms_of, form_at, raised}
-use Rattle.generalised_reduce.specs.MoveLaws.{form_is, raised_is}
-use Rattle.generalised_reduce.proofs.TestSteps.{ready_condition, row_is, before_is, gauge_as, test_halts, form_halts}
+use Rattle.generalised_reduce.specs.Reduced.{forms_of, form_at}
+use Rattle.generalised_reduce.specs.MoveLaws.{form_is}
+use Rattle.generalised_reduce.proofs.TestSteps.{ready_condition, row_is, before_is, gauge_as, test_halts}
 use Rattle.generalised_reduce.proofs.multiples.row_width.Goals as goal
 
 pub row-requires : goal.row-requires

@@ -1,6 +1,5 @@
-use Rattle.std.proofs.Common.{◌≡◌, ◌+◌, ◌<◌, ◌≤◌, suc, ℤ, pos, List, length, get_or, refl, sym, ap, ap₂, subst, ◌∙◌, arith, inl, inr, add-one, rules, All, [], SFits, to_z-of_z}
+use Rattle.std.proofs.Common.{◌≡◌, ◌+◌, ◌<◌, suc, ℤ, List, length, get_or, refl, ap, ap₂, subst, ◌∙◌, arith, inr, add-one, rules, All, [], SFits, to_z-of_z}
 use Rattle.std.proofs.lemmas.Result.{err_from_is_err_and}
-use Rattle.std.proofs.lemmas.List.{length-map}
 use Rattle.std.specs.Int.{w128}
 use Rattle.frac128.specs.Range.{IsNarrow}
 use Rattle.lp_dict.specs.Systems.{wholes}
@@ -10,8 +9,8 @@ use Rattle.norm_gauge.specs.Widths.{first_rows, polytope_of}
 use Rattle.unimodular_pair.specs.PairLaws.{length-with_multiple}
 use Rattle.generalised_reduce.specs.Halts.{WhereWide}
 use Rattle.generalised_reduce.specs.Moves.{FormStays}
-use Rattle.generalised_reduce.specs.Reduced.{forms_of, form_at, raised}
-use Rattle.generalised_reduce.specs.MoveLaws.{form_is, raised_is}
+use Rattle.generalised_reduce.specs.Reduced.{forms_of, raised}
+use Rattle.generalised_reduce.specs.MoveLaws.{raised_is}
 use Rattle.generalised_reduce.proofs.TestSteps.{ready_condition, row_is, before_is, gauge_as, test_halts, form_halts}
 use Rattle.generalised_reduce.proofs.multiples.tested.Goals as goal
 

@@ -1,4 +1,4 @@
-use Rattle.std.proofs.Common.{◌≡◌, ℤ, pos, nat_abs, ◌≤ℤ◌, ◌<ℤ◌, inl, inr, rules, ap, sym, subst, ◌∙◌, to_z-of_z}
+use Rattle.std.proofs.Common.{◌≡◌, pos, nat_abs, ◌≤ℤ◌, ◌<ℤ◌, inl, inr, rules, ap, subst, ◌∙◌, to_z-of_z}
 use Rattle.std.specs.Bool.{OnTrue, OnFalse}
 use Rattle.exact_math.specs.Rational.{whole, ◌*ℚ◌, ◌≤ℚ◌, ◌<ℚ◌}
 use Rattle.exact_math.specs.RationalOrder.{pos_from_num}

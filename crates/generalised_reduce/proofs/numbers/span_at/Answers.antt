@@ -1,4 +1,4 @@
-use Rattle.std.proofs.Common.{◌≡◌, ◌+◌, ℤ, pos, ◌-ℤ◌, ◌≤ℤ◌, get_or, rules, arith, ap, ap₂, sym, subst, ◌∙◌, SFits, to_z, of_z, to_z-of_z, add-one}
+use Rattle.std.proofs.Common.{◌≡◌, ◌+◌, pos, ◌-ℤ◌, ◌≤ℤ◌, get_or, rules, arith, ap, ap₂, sym, subst, ◌∙◌, SFits, to_z, of_z, to_z-of_z, add-one}
 use Rattle.std.specs.Int.{w128}
 use Rattle.std.proofs.lemmas.List.{get_or_read}
 use Rattle.exact_math.specs.Rational.{whole, ◌≤ℚ◌, ◌-ℚ◌, floor, ceil}

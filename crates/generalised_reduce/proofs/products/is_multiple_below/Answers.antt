@@ -1,6 +1,5 @@
-use Rattle.std.proofs.Common.{◌≡◌, nat_abs, ap, arith, rules, ◌∙◌, SFits, to_z-of_z}
+use Rattle.std.proofs.Common.{◌≡◌, nat_abs, ap, rules, ◌∙◌, SFits, to_z-of_z}
 use Rattle.std.specs.Int.{w128}
-use Rattle.std.proofs.lemmas.Int.{ints}
 use Rattle.generalised_reduce.proofs.ProductSteps.{test_no, test_yes}
 use Rattle.generalised_reduce.proofs.products.is_multiple_below.Goals as goal
 

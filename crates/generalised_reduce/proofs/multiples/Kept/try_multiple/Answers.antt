@@ -1,11 +1,10 @@
-use Rattle.std.proofs.Common.{◌≡◌, suc, ◌<◌, ◌∙◌, arith, rules, to_z-of_z, sym, subst}
+use Rattle.std.proofs.Common.{suc, ◌<◌, ◌∙◌, arith, to_z-of_z, sym, subst}
 use Rattle.std.proofs.lemmas.Bool.{OnFalse_at, OnTrue_at}
 use Rattle.exact_math.specs.Rational.{◌≤ℚ◌, ◌<ℚ◌}
 use Rattle.exact_math.specs.RationalOrder as Order
 use Rattle.exact_math.specs.RationalTests.{le_false, le_true}
 use Rattle.norm_gauge.specs.Widths.{polytope_of}
-use Rattle.generalised_reduce.specs.Moves.{IsCandidate}
-use Rattle.generalised_reduce.specs.Ready.{Covers, IsKept}
+use Rattle.generalised_reduce.specs.Ready.{Covers}
 use Rattle.generalised_reduce.specs.Reduced.{forms_of}
 use Rattle.generalised_reduce.specs.ReducedLaws.{width_nonneg}
 use Rattle.generalised_reduce.proofs.BestSteps.{candidate_near, covers_untested, covers_tested, kept_better}

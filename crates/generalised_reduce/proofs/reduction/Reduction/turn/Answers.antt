@@ -1,8 +1,6 @@
-use Rattle.std.proofs.Common.{◌≡◌, ℕ, suc, ◌+◌, ◌-◌, ◌<◌, length, refl, arith, ◌∙◌}
+use Rattle.std.proofs.Common.{◌≡◌, suc, ◌-◌, ◌<◌, refl, arith, ◌∙◌}
 use Rattle.std.proofs.lemmas.Bool.{OnFalse_at, OnTrue_at}
-use Rattle.norm_gauge.specs.Gauges.{IsGauge}
 use Rattle.norm_gauge.specs.Widths.{polytope_of}
-use Rattle.generalised_reduce.specs.Reduced.{form_at, forms_of}
 use Rattle.generalised_reduce.proofs.ImproveSteps.{gauge_at, gauge_nonneg, many_halts, reduced_on, reduced_turned, stands_swapped}
 use Rattle.generalised_reduce.proofs.reduction.Reduction.turn.Goals as goal
 
