@@ -5,10 +5,11 @@ use Rattle.exact_math.specs.Ring.{integers}
 use Rattle.exact_vectors.specs.Range.{StaysInRange}
 use Rattle.exact_vectors.specs.Vectors.{dot, zeros}
 use Rattle.reformulate.proofs.GapSteps.{bare_gap, divisor_positive, raised_gap}
-use Rattle.reformulate.proofs.ShowingSteps.{form_is, gap_from, stops-weaker}
+use Rattle.reformulate.proofs.ShowingSteps.{gap_from, stops-weaker}
 use Rattle.reformulate.proofs.ShownSteps.{raised_is, raised_side_stays}
 use Rattle.reformulate.specs.Gaps.{raised, sides_of, IsCeiling, IsGap}
 use Rattle.reformulate.specs.GapTimes.{RaisedStays}
+use Rattle.reformulate.specs.declared.equality.Equality.{Equality}
 use Rattle.reformulate.proofs.showing.raised_gap.Goals as goal
 
 pub gap_of-requires-clause-positive : goal.gap_of-requires-clause-positive
@@ -74,7 +75,7 @@ returns-clause-ok c =
     let added = simp to_z-of_z at c.in-Some-checked_add-2.ensures in
     let more = raised_is c.args.equalities.now c.args.times.items place c.index.result.now c.in-Some-checked_add.divisor c.in-Some-checked_add-2.time item added.1 in
     let copied = c.in_ok-to_vec.ensures.items_if_clones_equal (λ x y e. e) in
-    let form = c.of-form-2.ensures ∙ copied ∙ c.items-2.ensures ∙ form_is c.args.equalities.now place c.index-equalities-place.result first.there c.index-equalities-place.is in
+    let form = c.of-form-2.ensures ∙ copied ∙ c.items-2.ensures ∙ sym (get_or-map (λ (q : Equality). q.form) c.args.equalities.now place c.index-equalities-place.result [] first.there) in
     let by_times = simp to_z-of_z at c.gap_of-2.ensures.times in
     let by_divisor = simp to_z-of_z at c.gap_of-2.ensures.divisor in
     let by_lo = simp to_z-of_z at c.gap_of-2.ensures.lo in
