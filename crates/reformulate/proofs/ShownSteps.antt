@@ -132,9 +132,10 @@ times_are equalities at miss negative fractions times f is = is ∙ ap₂ (λ (m
 
 pub lifting_stays : (equalities : List Equality) (at : ℕ) (miss : Miss) (negative : Bool) (form row : List ℤ) → form ≡ get_or (forms_of equalities) at [] → row ≡ miss.row → GapStays equalities at miss negative
     → RemainderStays form miss.value row × LiftStays (forms_of (take at equalities)) (wholes (remainder_of form miss.value row))
-lifting_stays equalities at miss negative form row form_is row_is s =
-    (subst₂ (λ (f r : List ℤ). RemainderStays f miss.value r) (sym form_is) (sym row_is) s.remainder,
-    subst₂ (λ (b : List (List ℤ)) (w : List ℚ). LiftStays b w) (sym (forms_before equalities at)) (sym (ap₂ (λ (x y : List ℤ). wholes (remainder_of x miss.value y)) form_is row_is)) s.lifting)
+lifting_stays equalities at miss negative form row form_is row_is s = (
+  subst₂ (λ (f r : List ℤ). RemainderStays f miss.value r) (sym form_is) (sym row_is) s.remainder,
+  subst₂ (λ (b : List (List ℤ)) (w : List ℚ). LiftStays b w) (sym (forms_before equalities at)) (sym (ap₂ (λ (x y : List ℤ). wholes (remainder_of x miss.value y)) form_is row_is)) s.lifting,
+)
 
 pub times_stay_there : (equalities : List Equality) (at : ℕ) (miss : Miss) (negative : Bool) (fractions : List ℚ) → fractions ≡ multipliers_of equalities at miss → GapStays equalities at miss negative → TimesStay negative fractions
 times_stay_there equalities at miss negative fractions f s = subst (TimesStay negative) (sym f) s.times

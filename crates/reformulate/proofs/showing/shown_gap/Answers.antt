@@ -69,5 +69,4 @@ returns-clause-stop c =
     let value = simp to_z-of_z at c.in_ok-fractions.ensures.value in
     let fractions = c.items-3.ensures ∙ multipliers_are equalities c.args.at miss c.items.result.now c.items-2.result.now c.in_ok-fractions.fractions form c.items-2.ensures value in
     let times = times_are equalities c.args.at miss c.args.negative c.items-3.result.now c.in_ok-times.times.items fractions c.in_ok-times.ensures.value in
-    let stop = simp to_z-of_z at c.row_gap.ensures.stop in
-    stops-weaker c.row_gap.result (RowStays equalities miss.value (get_or c.in_ok-times.times.items c.args.at (pos 0)) c.in_ok-times.times.items) (GapStays equalities c.args.at miss c.args.negative) (row_stays equalities c.args.at miss c.args.negative c.in_ok-times.times.items times some) stop
+    stops-weaker c.row_gap.result (RowStays equalities miss.value (get_or c.in_ok-times.times.items c.args.at (pos 0)) c.in_ok-times.times.items) (GapStays equalities c.args.at miss c.args.negative) (row_stays equalities c.args.at miss c.args.negative c.in_ok-times.times.items times some) c.row_gap.ensures.stop
