@@ -1,4 +1,4 @@
-use Rattle.std.proofs.Common.{rules, ◌≡◌, ◌∙◌, ◌<◌, ◌+ℤ◌, ◌<ℤ◌, pos, [], List, ℤ, get_or, set, length, sym, ap, ap₂, subst, subst₂, FitsSigned, to_z-of_z}
+use Rattle.std.proofs.Common.{rules, ◌≡◌, ◌∙◌, ◌<◌, ◌+ℤ◌, ◌<ℤ◌, pos, [], List, ℤ, set, length, sym, ap, ap₂, subst, subst₂, FitsSigned, to_z-of_z}
 use Rattle.std.specs.Int.{w128}
 use Rattle.std.proofs.lemmas.List.{get_or_default, get_or-map}
 use Rattle.exact_math.specs.Ring.{integers}

@@ -1,11 +1,9 @@
-use Rattle.std.proofs.Common.{rules, ◌≡◌, ◌^◌, ◌<◌, ◌≤◌, List, pos, ◌<ℤ◌, get_or, nat_abs, take, FitsSigned, to_z, ap, subst, sym, arith, ◌∙◌}
+use Rattle.std.proofs.Common.{rules, ◌≡◌, ◌^◌, ◌<◌, List, pos, get_or, nat_abs, FitsSigned, to_z, ap, subst, arith, ◌∙◌}
 use Rattle.std.specs.Int.{w128}
 use Rattle.std.proofs.lemmas.Int.{to_z-of_z}
 use Rattle.std.proofs.lemmas.List.{take_all}
-use Rattle.exact_math.specs.Gcd.{lcm}
 use Rattle.exact_math.specs.IntegerRing.{linear}
 use Rattle.exact_math.specs.Rational.{ℚ}
-use Rattle.exact_math.specs.LcmLaws.{lcm_pos}
 use Rattle.reformulate.proofs.Denominators.{IsCommon, IsCommon-none, IsCommon-more, IsCommon-below, common-unique, above_zero, positive_is}
 use Rattle.reformulate.proofs.ShownSteps.{small_size}
 use Rattle.reformulate.proofs.whole_times.common_denominator.Goals as goal

@@ -3,7 +3,6 @@ use Rattle.std.specs.Int.{w128}
 use Rattle.std.specs.Prelude.{SomeIff}
 use Rattle.std.proofs.lemmas.Int.{to_z-of_z, quot_fits}
 use Rattle.exact_math.specs.IntegerLaws.{zero_add}
-use Rattle.exact_math.specs.Rational.{ℚ}
 use Rattle.exact_math.specs.RationalLaws.{den_pos}
 use Rattle.reformulate.specs.GapTimes.{time_of}
 use Rattle.reformulate.proofs.Denominators.{above_zero}
