@@ -16,6 +16,7 @@ pub mod Denominators
 pub mod MissSteps
 pub mod GapSteps
 pub mod ShowingSteps
+pub mod ShownSteps
 pub mod FramingSteps
 pub mod SliceLaws
 pub mod SliceSteps

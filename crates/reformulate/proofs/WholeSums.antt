@@ -1,12 +1,12 @@
 -- Sums of whole rows with rational and with whole multipliers.
-use Rattle.std.proofs.Common.{◌≡◌, ◌≢◌, ℕ, zero, suc, ◌+◌, ◌*◌, ◌/◌, ◌<◌, Bool, ℤ, pos, neg_ℤ, ◌*ℤ◌, List, [], ◌∷◌, length, map, refl, sym, ap, ap₂, subst, ◌∙◌, arith, All, mul_comm}
+use Rattle.std.proofs.Common.{◌≡◌, ◌≢◌, ℕ, zero, suc, ◌*◌, ◌/◌, ℤ, pos, neg_ℤ, ◌*ℤ◌, List, [], ◌∷◌, length, map, refl, sym, ap, ap₂, ◌∙◌, arith, All, mul_comm}
 use Rattle.std.specs.Int.{◌∣◌}
 use Rattle.std.proofs.Math.Nat.{mul-div_cancel'}
 use Rattle.std.proofs.lemmas.List.{length-map}
 use Rattle.std.proofs.lemmas.List.Elements.{All-head, All-tail}
 use Rattle.exact_math.specs.IntegerRing.{expand, linear}
-use Rattle.exact_math.specs.Rational.{ℚ, whole, frac, inv_ℚ, ◌+ℚ◌, ◌*ℚ◌}
-use Rattle.exact_math.specs.RationalLaws.{den_pos, frac-mul, frac-self, same_frac, whole-frac, num_zero}
+use Rattle.exact_math.specs.Rational.{ℚ, whole, inv_ℚ, ◌*ℚ◌}
+use Rattle.exact_math.specs.RationalLaws.{den_pos, frac-mul, frac-self, same_frac, whole-frac}
 use Rattle.exact_math.specs.RationalRing.{rationals, mul_inv, whole_add, whole_mul}
 use Rattle.exact_math.specs.Ring.{Ring, integers}
 use Rattle.exact_math.specs.RingLaws as Laws
@@ -14,7 +14,6 @@ use Rattle.exact_vectors.specs.Matrices.{combination}
 use Rattle.exact_vectors.specs.MatrixLaws as Matrix
 use Rattle.exact_vectors.specs.Vectors.{add, scale, zeros}
 use Rattle.row_lifting.specs.Lifting.{wholes, SumsTo}
-use Rattle.reformulate.specs.GapTimes.{sign_of, time_of}
 
 -- ---- multiples of a combination, over any ring
 

@@ -1,5 +1,5 @@
 -- Gaps: whole times of equalities that show that they have no integer solution (Schrijver, "Theory of Linear and Integer Programming", 1986, chapter 4).
-use Rattle.std.specs.Prelude.{◌≡◌, ◌≢◌, ◌⊎◌, ℕ, ◌<◌, ◌^◌, ℤ, pos, neg_ℤ, ◌+ℤ◌, ◌-ℤ◌, ◌*ℤ◌, ◌≤ℤ◌, ◌<ℤ◌, List, [], length, map, get_or, set, All}
+use Rattle.std.specs.Prelude.{◌≡◌, ◌≢◌, ◌⊎◌, ℕ, ◌<◌, ◌^◌, ℤ, pos, neg_ℤ, ◌+ℤ◌, ◌-ℤ◌, ◌*ℤ◌, ◌≤ℤ◌, ◌<ℤ◌, List, [], length, map, get_or, set}
 use Rattle.exact_math.specs.Ring.{integers}
 use Rattle.exact_vectors.specs.Matrices.{combination}
 use Rattle.exact_vectors.specs.Vectors.{dot, scale, zeros}

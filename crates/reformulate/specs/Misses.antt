@@ -1,5 +1,5 @@
 -- Equalities of which one has a gap.
-use Rattle.std.specs.Prelude.{ℕ, ◌<◌, ◌≡◌, List, length, get_or, take, drop, ◌++◌, ◌∷◌, All}
+use Rattle.std.specs.Prelude.{ℕ, ◌≡◌, List, length, ◌++◌, ◌∷◌, All}
 use Rattle.reformulate.specs.Charts.{Chart}
 use Rattle.reformulate.specs.Framing.{IsMissed, Reach}
 use Rattle.reformulate.specs.declared.equality.Equality.{Equality}

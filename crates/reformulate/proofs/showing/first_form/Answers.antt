@@ -1,4 +1,4 @@
-use Rattle.std.proofs.Common.{◌≡◌, [], get_or, subst, sym, ◌∙◌, List, ℤ, below_more}
+use Rattle.std.proofs.Common.{[], get_or, subst, sym, ◌∙◌, List, ℤ, below_more}
 use Rattle.std.proofs.lemmas.List.{get_or-map}
 use Rattle.reformulate.proofs.ShowingSteps.{all_zero_form}
 use Rattle.reformulate.proofs.TakingSteps.{none_there}

@@ -1,12 +1,11 @@
-use Rattle.std.proofs.Common.{rules, ◌≡◌, ◌^◌, ◌<◌, ◌≤◌, List, pos, ◌<ℤ◌, get_or, nat_abs, take, FitsSigned, to_z, ap, subst, sym, arith, ◌∙◌}
+use Rattle.std.proofs.Common.{rules, ◌≡◌, ◌^◌, ◌<◌, List, pos, get_or, nat_abs, FitsSigned, to_z, ap, subst, arith, ◌∙◌}
 use Rattle.std.specs.Int.{w128}
 use Rattle.std.proofs.lemmas.Int.{to_z-of_z}
 use Rattle.std.proofs.lemmas.List.{take_all}
-use Rattle.exact_math.specs.Gcd.{lcm}
 use Rattle.exact_math.specs.IntegerRing.{linear}
 use Rattle.exact_math.specs.Rational.{ℚ}
-use Rattle.exact_math.specs.LcmLaws.{lcm_pos}
 use Rattle.reformulate.proofs.Denominators.{IsCommon, IsCommon-none, IsCommon-more, IsCommon-below, common-unique, above_zero, positive_is}
+use Rattle.reformulate.proofs.ShownSteps.{small_size}
 use Rattle.reformulate.proofs.whole_times.common_denominator.Goals as goal
 
 pub loop-multiplier-init : goal.loop-multiplier-init
@@ -34,6 +33,5 @@ returns c =
     let z = to_z w128 c.loop-multiplier.common-bits in
     let all = take_all c.loop-multiplier.multiplier-index c.args.multipliers.now c.loop-multiplier-test.false in
     let is = common-unique c.args.multipliers.now (nat_abs z) (subst (λ (l : List ℚ). IsCommon l (nat_abs (to_z w128 c.loop-multiplier.common-bits))) all inv.common) in
-    let fits : FitsSigned w128 c.loop-multiplier.common = search rules in
-    let same = c.loop-multiplier.common-is in
-    (omega (linear, is, same, inv.positive, fits), positive_is (to_z w128 c.loop-multiplier.common-bits) inv.positive ∙ ap pos is)
+    let fits : FitsSigned w128 (to_z w128 c.loop-multiplier.common-bits) = search rules in
+    (subst (λ k. k < 2 ^ 127) is (small_size (to_z w128 c.loop-multiplier.common-bits) inv.positive fits), positive_is (to_z w128 c.loop-multiplier.common-bits) inv.positive ∙ ap pos is)
