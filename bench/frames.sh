@@ -9,7 +9,7 @@ trap 'rm -rf "$work"' EXIT
 
 bench=$work/crates/frame_bench
 mkdir -p "$bench"/{src,specs,proofs/{market,row}}
-lower="sequence exact_math exact_vectors gram_minors spaces unimodular_pair lattice_reduce reformulate"
+lower="sequence exact_math exact_vectors gram_minors frac128 spaces unimodular_pair lattice_reduce row_lifting reformulate"
 for crate in $lower; do
     mkdir "$work/crates/$crate"
     for part in src specs proofs; do
@@ -98,7 +98,7 @@ fn market(
 fn answer(framed: Result<Framed, FrameStop>) -> &'static str {
     match framed {
         Ok(Framed::Frame(_frame)) => "a frame",
-        Ok(Framed::NoIntegerPoint) => "no integer point",
+        Ok(Framed::NoIntegerPoint(_gap)) => "no integer point",
         Err(FrameStop::Excuse(FrameExcuse::Reduce(_excuse))) => "an excuse of the reduction",
         Err(FrameStop::Excuse(FrameExcuse::Product(_steps))) => "an excuse of a product",
         Err(FrameStop::NoMemory) => "no memory",

@@ -10,6 +10,13 @@ pub mod ReducingSteps
 pub mod QuotientSteps
 pub mod TakingSteps
 pub mod UnitBasis
+pub mod SpanSteps
+pub mod WholeSums
+pub mod Denominators
+pub mod MissSteps
+pub mod GapSteps
+pub mod ShowingSteps
+pub mod ShownSteps
 pub mod FramingSteps
 pub mod SliceLaws
 pub mod SliceSteps

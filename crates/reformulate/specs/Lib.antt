@@ -3,6 +3,9 @@ pub mod Bases
 pub mod Charts
 pub mod Halts
 pub mod Quotients
+pub mod Gaps
+pub mod GapTimes
+pub mod Misses
 pub mod Settling
 pub mod Slices
 pub mod Solutions

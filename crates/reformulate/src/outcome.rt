@@ -1,5 +1,6 @@
 //! The answers of framing.
 use crate::frame::Frame;
+use crate::gap::Gap;
 use lattice_reduce::ReduceExcuse;
 use sequence::NoMemory;
 use std::alloc::AllocError;
@@ -10,8 +11,8 @@ use unimodular_pair::Steps;
 pub enum Framed {
     /// A frame of their integer solutions.
     Frame(Frame),
-    /// No integer solution.
-    NoIntegerPoint,
+    /// No integer solution, with the times that show it.
+    NoIntegerPoint(Gap),
 }
 
 /// The data of an excuse: the steps are legal, and a number of the next one leaves `i128`.
@@ -19,7 +20,7 @@ pub enum Framed {
 pub enum FrameExcuse {
     /// A number of the reduction, whose steps these are.
     Reduce(ReduceExcuse),
-    /// An entry of x0, K or V, a value of an equality's form, or what is left of its side.
+    /// An entry of x0, K or V, a value of an equality's form, what is left of its side, or a number on the way to a gap.
     Product(Steps),
 }
 

@@ -27,7 +27,7 @@ fn two_coins(rt: HostRuntime) -> Result<(), Fail> {
             assert_eq!(rt; frame.to_work().lines().row(1), [3].as_slice());
             assert_eq!(rt; frame.back().row(0), [1, 2].as_slice());
         }
-        Ok(Framed::NoIntegerPoint) => assert!(rt; false),
+        Ok(Framed::NoIntegerPoint(_gap)) => assert!(rt; false),
         Err(_stop) => assert!(rt; false),
     }
     Ok(())
@@ -39,7 +39,34 @@ fn parity_pair(rt: HostRuntime) -> Result<(), Fail> {
     equalities.push(equality(rt.alloc(), 1, 1, 1)?)?;
     equalities.push(equality(rt.alloc(), 1, -1, 0)?)?;
     match Frame::of(rt.alloc(), 2, &equalities) {
-        Ok(Framed::NoIntegerPoint) => {}
+        // their sum is 2 x = 1
+        Ok(Framed::NoIntegerPoint(gap)) => {
+            assert_eq!(rt; gap.times.items(), [1, 1].as_slice());
+            assert_eq!(rt; gap.form.items(), [1, 0].as_slice());
+            assert_eq!(rt; gap.divisor, 2);
+            assert_eq!(rt; gap.lo, 1);
+        }
+        Ok(Framed::Frame(_frame)) => assert!(rt; false),
+        Err(_stop) => assert!(rt; false),
+    }
+    Ok(())
+}
+
+// 3 x = 3 and 2 x = 1: twice the first less three times the second is 0 = 3, and 4 times the first with this is 12 x = 15.
+#[test]
+fn a_contradiction_is_raised(rt: HostRuntime) -> Result<(), Fail> {
+    let mut equalities = Equalities::new(rt.alloc());
+    for (factor, side) in [(3, 3), (2, 1)] {
+        let form = Form::of(vec![in rt.alloc(); factor]?);
+        equalities.push(Equality { form, side })?;
+    }
+    match Frame::of(rt.alloc(), 1, &equalities) {
+        Ok(Framed::NoIntegerPoint(gap)) => {
+            assert_eq!(rt; gap.times.items(), [6, -3].as_slice());
+            assert_eq!(rt; gap.form.items(), [3].as_slice());
+            assert_eq!(rt; gap.divisor, 4);
+            assert_eq!(rt; gap.lo, 4);
+        }
         Ok(Framed::Frame(_frame)) => assert!(rt; false),
         Err(_stop) => assert!(rt; false),
     }
@@ -65,7 +92,7 @@ fn a_slice_is_a_point(rt: HostRuntime) -> Result<(), Fail> {
             }
             Err(_stop) => assert!(rt; false),
         },
-        Ok(Framed::NoIntegerPoint) => assert!(rt; false),
+        Ok(Framed::NoIntegerPoint(_gap)) => assert!(rt; false),
         Err(_stop) => assert!(rt; false),
     }
     Ok(())

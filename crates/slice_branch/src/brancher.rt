@@ -7,8 +7,10 @@ ghost use Rattle.slice_branch.specs.Places.{is_plain_place, plain_from, IsKept, 
 
 use crate::check::{closes_under, split_of, widest_of};
 use crate::directions::Thin;
+use crate::ends::Direction;
 use crate::forms::root_forms;
 use crate::frames::child_of;
+use crate::gap::gap_direction;
 use crate::halt::Halt;
 use crate::model::OpenModel;
 use crate::place::{Node, Place, Settled};
@@ -103,8 +105,12 @@ fn open_root<'a>(alloc: Global, model: &'a OpenModel<'a>) -> Result<Place, Halt>
     ensures { IfOk result IsRootPlace }
 {
     let equalities = model.equalities(alloc)?;
-    let Framed::Frame(frame) = Frame::of(alloc, model.work.columns(), &equalities)? else {
-        return Err(Halt::GivesUp);
+    let frame = match Frame::of(alloc, model.work.columns(), &equalities)? {
+        Framed::Frame(frame) => frame,
+        Framed::NoIntegerPoint(gap) => {
+            let direction = gap_direction(alloc, model, &gap)?;
+            return Ok(Place::Settled(Some(Settled::Gap(direction))));
+        }
     };
     let dict = root_dict(alloc, model)?;
     let short = shortener(alloc, &equalities)?;
@@ -151,7 +157,21 @@ impl SliceBrancher<'_> {
                     None
                 }
             }
+            Settled::Gap(direction) => self.gap_move(direction, path, best),
         }
+    }
+
+    /// The split without a slice along a form that has no value, where it passes its checks.
+    fn gap_move(&self, direction: Direction, path: &Path, best: Option<i128>) -> Option<Move>
+        requires forms { HasForms (length self.now.rows.now.box) path.now }
+        requires small { widest self.now.rows.now.box ≤ 2 ^ 97 }
+        ensures { IfSome result (IsFramedMove self.now.rows.now path.now best) }
+    {
+        if direction.count != 0 {
+            return None;
+        }
+        let cut = split_of(self.rows, best, path, self.most, direction)?;
+        Some(Move::Split(cut))
     }
 
     /// The move of a place that is not split by single columns, where it has one. The place stays what it is.

@@ -7,6 +7,7 @@ mod directions;
 mod ends;
 mod forms;
 mod frames;
+mod gap;
 mod halt;
 mod model;
 mod place;

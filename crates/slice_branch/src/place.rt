@@ -1,4 +1,5 @@
 //! What a brancher keeps of a node.
+use crate::ends::Direction;
 use crate::short::Shortener;
 use farkas_rows::Line;
 use range_dict::RangeDict;
@@ -23,6 +24,8 @@ pub struct Node {
 pub enum Settled {
     /// Bounds cross, or a row cannot be met within the box.
     Closed(Line),
+    /// The equalities have no integer point: a form has no value at all.
+    Gap(Direction),
 }
 
 /// What a brancher keeps of a node.

@@ -84,6 +84,15 @@ fn one_node_is_enough(rt: HostRuntime) -> Result<(), Fail> {
     Ok(())
 }
 
+/// x + y = 1 and x - y = 0 have no integer point, though each one has.
+#[test]
+fn a_gap_is_one_node(rt: HostRuntime) -> Result<(), Fail> {
+    let alloc = rt.alloc();
+    let rows = two_columns(alloc, 1, [0, 0], &[equal([1, 1], 1), equal([1, -1], 0)])?;
+    assert!(rt; solved(alloc, &rows, 1)?.is_none());
+    Ok(())
+}
+
 #[test]
 fn best_points_are_found(rt: HostRuntime) -> Result<(), Fail> {
     let alloc = rt.alloc();

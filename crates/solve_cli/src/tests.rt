@@ -149,6 +149,7 @@ fn a_search_counts_its_nodes(rt: HostRuntime) -> Result<(), Fail> {
         ),
         ("solve m p", TWO_COINS_UNREACHABLE, "INFEASIBLE\n", 1, 0),
         ("solve m p", EVEN_SUM, "INFEASIBLE\n", 1, 0),
+        ("solve m p", PARITY_PAIR, "INFEASIBLE\n", 1, 0),
         ("solve --nodes 1 m p", LARGE_COINS, "INFEASIBLE\n", 1, 0),
         ("solve --nodes 1 m p", THIN_TRIANGLE, "SPENT\n", 1, 0),
         ("solve m p", SPLIT_FREE, "INFEASIBLE\n", 1, 0),

@@ -4,9 +4,9 @@ use Rattle.reformulate.specs.Framing.{Reach}
 use Rattle.reformulate.specs.Substitutions.{columns_of, IsSubstitution}
 use Rattle.reformulate.proofs.frame.Frame.of.Given as goal
 
-abbrev pub invariant-loop-equality : goal.invariant-loop-equality
-invariant-loop-equality l = record {
+abbrev pub invariant-loop-at : goal.invariant-loop-at
+invariant-loop-at l = record {
   shaped : IsSubstitution l.frame;
   columns : columns_of l.frame ≡ l.width;
-  reach : Reach l.width (take l.equality-index l.equalities) (chart_of l.frame);
+  reach : Reach l.width (take l.at l.equalities) (chart_of l.frame);
 }
