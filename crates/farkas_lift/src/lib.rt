@@ -14,3 +14,6 @@ pub use lifting::lift;
 pub use place::Place;
 pub use side::NodeSide;
 pub use system::kernel_system;
+
+#[cfg(test)]
+mod tests;
