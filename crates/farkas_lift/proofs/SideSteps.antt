@@ -1,9 +1,7 @@
 -- The factors of the sides of a node.
-use Rattle.std.proofs.Common.{◌≡◌, ℕ, zero, suc, ℤ, pos, negsuc, List, ◌∷◌, length, set, refl, ap, ◌∙◌}
-use Rattle.std.proofs.lemmas.List.{length-map, length-set}
+use Rattle.std.proofs.Common.{◌≡◌, ℕ, zero, suc, ℤ, pos, negsuc, List, ◌∷◌, set, refl, ap}
 use Rattle.exact_math.specs.Ring.{integers}
 use Rattle.exact_vectors.specs.Vectors.{negate, zeros}
-use Rattle.exact_vectors.specs.MatrixLaws as Matrix
 use Rattle.farkas_rows.specs.Inequalities.{unit}
 
 negate_zeros : (n : ℕ) → zeros integers n ≡ negate integers (zeros integers n)
@@ -15,9 +13,3 @@ pub turned_unit : (n j : ℕ) → set (zeros integers n) j (negsuc 0) ≡ negate
 turned_unit zero j = refl
 turned_unit (suc n) zero = ap (λ (l : List ℤ). negsuc 0 ∷ l) (negate_zeros n)
 turned_unit (suc n) (suc j) = ap (λ (l : List ℤ). pos 0 ∷ l) (turned_unit n j)
-
-pub length-unit : (n j : ℕ) → length (unit n j) ≡ n
-length-unit n j = length-set (zeros integers n) j (pos 1) ∙ Matrix.length-zeros integers n
-
-pub length-turned_unit : (n j : ℕ) → length (negate integers (unit n j)) ≡ n
-length-turned_unit n j = length-map (unit n j) _ ∙ length-unit n j

@@ -1,0 +1,24 @@
+use Rattle.std.proofs.Common.{◌≡◌, ◌<◌, length, map, sym, ◌∙◌, ap, arith}
+use Rattle.std.proofs.lemmas.List.{length-map}
+use Rattle.spaces.specs.TableLaws.{length-with_row}
+use Rattle.farkas_lift.specs.NodeLifting.{side_form, side_forms}
+use Rattle.farkas_lift.proofs.GridSteps.{row_more, row_of, rows_all}
+use Rattle.farkas_lift.proofs.grids.side_grid.Goals as goal
+
+pub loop-i-preserved : goal.loop-i-preserved
+loop-i-preserved c =
+    let inv = c.loop-i.invariant in
+    let row = c.copy_from_slice.new.self in
+    let below : c.loop-i.i < c.loop-i.grid.rows = omega (arith, c.loop-i-test.true, inv.height) in
+    let after = c.copy_from_slice.ensures.after ∙ c.deref.ensures.value in
+    let long = ap length after ∙ c.in_ok-factors.ensures.dense ∙ sym inv.width in
+    record {
+      height = inv.height;
+      width = inv.width;
+      size = length-with_row c.loop-i.grid c.loop-i.i row inv.size below long;
+      done = row_more c.loop-i.grid (side_forms c.args.rows.now c.args.sides.now) c.loop-i.i row inv.size below long (after ∙ c.in_ok-factors.ensures.value ∙ row_of (side_form c.args.rows.now) c.args.sides.now c.loop-i.i c.index-sides-i.result c.loop-i-test.true c.index-sides-i.is) inv.done;
+    }
+
+pub returns-clause-rows : goal.returns-clause-rows
+returns-clause-rows c =
+    rows_all c.loop-i.grid (side_forms c.args.rows.now c.args.sides.now) c.loop-i.i (length-map c.args.sides.now (side_form c.args.rows.now) ∙ sym c.loop-i.invariant.height) (omega (arith, c.loop-i-test.false, c.loop-i.invariant.height)) c.loop-i.invariant.done
