@@ -1,7 +1,2 @@
 pub mod Joined
 pub mod NodeEqualities
-pub mod NodeSides
-pub mod NodeSystem
-pub mod NodePoints
-pub mod NodeLifting
-pub mod SideForms

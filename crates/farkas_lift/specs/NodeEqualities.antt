@@ -1,5 +1,5 @@
 -- The equalities of a node over its work columns, those that presolving keeps.
-use Rattle.std.specs.Prelude.{ℕ, ℤ, pos, List, [], ◌∷◌, ◌++◌, length, map, Option, Some, None, if◌then◌else◌, slice_index, slice_index_or}
+use Rattle.std.specs.Prelude.{ℤ, pos, List, [], ◌∷◌, ◌++◌, length, map, Option, Some, None, if◌then◌else◌, slice_index, slice_index_or}
 use Rattle.std.specs.Ordering.{int_eq}
 use Rattle.whole_rows.specs.WholeRows.{WholeRow, row_at}
 use Rattle.farkas_rows.specs.declared.path.Slice.{Slice}

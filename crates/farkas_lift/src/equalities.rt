@@ -12,9 +12,6 @@ use sequence::NoMemory;
 use spaces::Form;
 use std::alloc::Global;
 
-/// How many slices a path has at most that is lifted. No node's path has more than twice as many slices as a model has columns.
-pub(crate) const LONGEST_PATH: usize = 1 << 16;
-
 /// The equalities of a node over the work columns: the rows with equal sides in order, and then the slices that lead to it.
 /// The form of a slice is 0 in each column that is not kept.
 pub fn node_equalities(alloc: Global, rows: &WorkRows, path: &Path) -> Result<Equalities, NoMemory>

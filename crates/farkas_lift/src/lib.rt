@@ -1,19 +1,11 @@
-//! The system of a node in the coordinates of a frame, and its multipliers carried back to the model's own inequalities.
+//! The equalities of a node over the work columns, those that presolving keeps.
 #![tactic(auto)]
 
 mod equalities;
-mod grids;
-mod lifting;
-mod multiples;
-mod place;
 mod side;
-mod system;
 
 pub use equalities::node_equalities;
-pub use lifting::lift;
-pub use place::Place;
-pub use side::NodeSide;
-pub use system::kernel_system;
+pub use side::common_side;
 
 #[cfg(test)]
 mod tests;
