@@ -1,0 +1,38 @@
+//! 3x + 5y = 8 for x and y from 0 to 10.
+use crate::node_equalities;
+use farkas_rows::{Path, Slice};
+use presolve_map::{Presolved, presolve};
+use sequence::NoMemory;
+use spaces::Form;
+use std::alloc::Global;
+use std::test::Fail;
+use whole_rows::{Bounds, DenseRows};
+
+/// The two coins, at a cost of 2x + 7y.
+fn two_coins(alloc: Global) -> Result<DenseRows, Fail> {
+    let column = Bounds { low: 0, high: 10 };
+    let mut rows = DenseRows::new(alloc, vec![in alloc; column, column]?)?;
+    rows.push_row(&[3, 5], Some(8), Some(8))?;
+    rows.set_cost(&[2, 7])?;
+    Ok(rows)
+}
+
+#[test]
+fn rows_and_slices_are_equalities(rt: HostRuntime) -> Result<(), Fail> {
+    let rows = two_coins(rt.alloc())?;
+    let Presolved::Open { map: _, rows: work } = presolve(rt.alloc(), &rows)? else {
+        return Err(NoMemory)?;
+    };
+    let mut path = Path::new(rt.alloc());
+    path.push(Slice {
+        form: Form::of(vec![in rt.alloc(); 1, 0]?),
+        beta: 6,
+    })?;
+    let equalities = node_equalities(rt.alloc(), &work, &path)?;
+    assert_eq!(rt; equalities.items().len(), 2);
+    assert_eq!(rt; equalities.items()[0].form.items(), [3, 5].as_slice());
+    assert_eq!(rt; equalities.items()[0].side, 8);
+    assert_eq!(rt; equalities.items()[1].form.items(), [1, 0].as_slice());
+    assert_eq!(rt; equalities.items()[1].side, 6);
+    Ok(())
+}
