@@ -1,4 +1,6 @@
 //! Worked values of the definitions, and the law that a text is read in one way.
+#![tactic(auto, unfolding(crate::specs::Computing::computed))]
+
 ghost use Rattle.std.specs.Prelude.{◌≡◌, ◌↔◌, ◌+◌, ◌-◌, ◌≤◌, IfSome, ℕ, not, List, [], ◌∷◌, ◌++◌, filter, replicate, codes, Some, None, Ok, Err, pos, negsuc, true, false};
 ghost use Rattle.std.specs.List.{range_with_len};
 ghost use Rattle.exact_math.specs.Rational.{frac, whole};
