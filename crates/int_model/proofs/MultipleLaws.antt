@@ -1,28 +1,21 @@
 -- Multiples and products with the scale: which of them are in range.
-use Rattle.std.proofs.Common.{◌≡◌, ⊎_elim, ℕ, zero, suc, ◌*◌, ◌/◌, ◌^◌, ◌<◌, ◌≤◌, List, [], ◌∷◌, ◌++◌, length, map, get_or, ℤ, pos, ◌*ℤ◌, nat_abs, sym, ap, subst, ◌∙◌, arith, mul_comm, mul_assoc, mul-zero, mul-pos}
+use Rattle.std.proofs.Common.{◌≡◌, ⊎_elim, ℕ, zero, suc, ◌^◌, ◌<◌, List, [], ◌∷◌, ◌++◌, length, get_or, ℤ, pos, nat_abs, sym, ap, subst, ◌∙◌, arith}
 use Rattle.std.specs.Int.{◌∣◌}
-use Rattle.std.proofs.Math.Nat.{mul-div_cancel', eq_of_mul-eq-mul_left, mul-le-mul_left, mul-le-mul_right, add-le-add, div-le_self}
+use Rattle.std.proofs.Math.Nat.{div-le_self}
 use Rattle.std.proofs.Math.ListN as lists
-use Rattle.std.proofs.lemmas.Nat.Gcd.{dvd_trans, dvd_antisymm, dvd_refl}
+use Rattle.std.proofs.lemmas.Nat.Gcd.{dvd_trans, dvd_antisymm}
 use Rattle.std.proofs.lemmas.Bool.{cases_lt}
 use Rattle.std.proofs.lemmas.List.{get_or-map}
 use Rattle.exact_math.specs.Gcd.{gcd}
 use Rattle.exact_math.specs.GcdLaws.{gcd_dvd_left, gcd_dvd_right, dvd_gcd, gcd_comm}
 use Rattle.exact_math.specs.Rational.{ℚ, whole, frac, ◌*ℚ◌}
-use Rattle.exact_math.specs.IntegerRing.{expand, linear}
-use Rattle.exact_math.specs.RationalLaws.{den_pos, whole-frac, num_zero}
-use Rattle.exact_math.specs.RationalRing as ring
 use Rattle.exact_math.specs.RationalFloor.{whole_from_den}
 use Rattle.exact_math.specs.LcmLaws.{dvd_lcm_left, dvd_lcm_right, whole_multiple}
 use Rattle.frac128.specs.Range.{IsNarrow, InRange, ProductInRange}
-use Rattle.whole_rows.specs.declared.bounds.Bounds.{Bounds}
-use Rattle.whole_rows.specs.WholeRows.{reach, span, IsHeavy}
+use Rattle.whole_rows.specs.WholeRows.{IsHeavy}
 use Rattle.int_model.specs.Scale.{common_denominator, common_numerator, over_or_one, scale, scaled}
-use Rattle.int_model.specs.declared.model.Model.{Model}
-use Rattle.int_model.specs.IntegerRows.{integer_rows, objective_of, cost}
-use Rattle.int_model.specs.Large.{multiple, objective_numbers, IsLargeObjective}
-use Rattle.int_model.proofs.ScaleLaws.{scaled-whole, whole_product, cross_of_whole, zero_from_dvd, common_denominator_pos}
-use Rattle.int_model.proofs.LargeLaws.{objective_light}
+use Rattle.int_model.specs.Large.{multiple}
+use Rattle.int_model.proofs.ScaleLaws.{scaled-whole}
 
 -- ---- common divisors and multiples
 
