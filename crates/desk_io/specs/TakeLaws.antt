@@ -10,10 +10,6 @@ pub record IsTaken (input taken : List ℕ) (left : Option (List ℕ)) : Type 0 
   pub split : input ≡ taken ++ rest
   pub is_left : left ≡ Some rest
 
--- before the first take
-pub taken_none : (input : List ℕ) (left : Option (List ℕ)) → left ≡ Some input → IsTaken input [] left
-taken_none input left told = record { rest = input; split = refl; is_left = told }
-
 -- after one take more
 pub taken_more : (input taken buffer : List ℕ) (n : ℕ) (before after : Option (List ℕ)) → IsTaken input taken before
     → ForSome before (TakesFrom buffer n) → after ≡ option_map (drop n) before → IsTaken input (taken ++ take n buffer) after
@@ -34,10 +30,6 @@ pub taken_all : (input taken buffer : List ℕ) (left : Option (List ℕ)) → I
 taken_all input taken buffer left so_far room takes =
     let none : so_far.rest ≡ [] = (takes so_far.rest so_far.is_left).ends refl room in
     sym (so_far.split ∙ ap (λ (l : List ℕ). taken ++ l) none ∙ append-nil taken)
-
--- no more was taken than there was
-pub taken_within : (input taken : List ℕ) (left : Option (List ℕ)) → IsTaken input taken left → length taken ≤ length input
-taken_within input taken left so_far = omega (arith, ap length so_far.split, length-append taken so_far.rest)
 
 -- a take of as many bytes as there are and as there is room for
 pub takes_least : (buffer left : List ℕ) (n : ℕ) → n ≡ min (length buffer) (length left) → take n buffer ≡ take n left → TakesFrom buffer n left

@@ -1,28 +1,21 @@
--- Multiples and products with the scale: which of them are in range, and that the cost weighs no more than the objective's multiple.
-use Rattle.std.proofs.Common.{◌≡◌, ⊎_elim, ℕ, zero, suc, ◌*◌, ◌/◌, ◌^◌, ◌<◌, ◌≤◌, List, [], ◌∷◌, ◌++◌, length, map, get_or, ℤ, pos, ◌*ℤ◌, nat_abs, sym, ap, subst, ◌∙◌, arith, mul_comm, mul_assoc, mul-zero, mul-pos}
+-- Multiples and products with the scale: which of them are in range.
+use Rattle.std.proofs.Common.{◌≡◌, ⊎_elim, ℕ, zero, suc, ◌^◌, ◌<◌, List, [], ◌∷◌, ◌++◌, length, get_or, ℤ, pos, nat_abs, sym, ap, subst, ◌∙◌, arith}
 use Rattle.std.specs.Int.{◌∣◌}
-use Rattle.std.proofs.Math.Nat.{mul-div_cancel', eq_of_mul-eq-mul_left, mul-le-mul_left, mul-le-mul_right, add-le-add, div-le_self}
+use Rattle.std.proofs.Math.Nat.{div-le_self}
 use Rattle.std.proofs.Math.ListN as lists
-use Rattle.std.proofs.lemmas.Nat.Gcd.{dvd_trans, dvd_antisymm, dvd_refl}
+use Rattle.std.proofs.lemmas.Nat.Gcd.{dvd_trans, dvd_antisymm}
 use Rattle.std.proofs.lemmas.Bool.{cases_lt}
 use Rattle.std.proofs.lemmas.List.{get_or-map}
 use Rattle.exact_math.specs.Gcd.{gcd}
 use Rattle.exact_math.specs.GcdLaws.{gcd_dvd_left, gcd_dvd_right, dvd_gcd, gcd_comm}
 use Rattle.exact_math.specs.Rational.{ℚ, whole, frac, ◌*ℚ◌}
-use Rattle.exact_math.specs.IntegerRing.{expand, linear}
-use Rattle.exact_math.specs.RationalLaws.{den_pos, whole-frac, num_zero}
-use Rattle.exact_math.specs.RationalRing as ring
 use Rattle.exact_math.specs.RationalFloor.{whole_from_den}
 use Rattle.exact_math.specs.LcmLaws.{dvd_lcm_left, dvd_lcm_right, whole_multiple}
 use Rattle.frac128.specs.Range.{IsNarrow, InRange, ProductInRange}
-use Rattle.whole_rows.specs.declared.bounds.Bounds.{Bounds}
-use Rattle.whole_rows.specs.WholeRows.{reach, span, IsHeavy}
+use Rattle.whole_rows.specs.WholeRows.{IsHeavy}
 use Rattle.int_model.specs.Scale.{common_denominator, common_numerator, over_or_one, scale, scaled}
-use Rattle.int_model.specs.declared.model.Model.{Model}
-use Rattle.int_model.specs.IntegerRows.{integer_rows, objective_of, cost}
-use Rattle.int_model.specs.Large.{multiple, objective_numbers, IsLargeObjective}
-use Rattle.int_model.proofs.ScaleLaws.{scaled-whole, whole_product, cross_of_whole, zero_from_dvd, common_denominator_pos}
-use Rattle.int_model.proofs.LargeLaws.{objective_light}
+use Rattle.int_model.specs.Large.{multiple}
+use Rattle.int_model.proofs.ScaleLaws.{scaled-whole}
 
 -- ---- common divisors and multiples
 
@@ -76,54 +69,3 @@ scaled_at a k d e h =
 -- a multiple by a number that the denominator divides
 pub multiple_is : (m : ℕ) (q : ℚ) → q.den ∣ m → whole (pos m) *ℚ q ≡ whole (multiple m q)
 multiple_is m q h = whole_from_den (whole (pos m) *ℚ q) (whole_multiple m q h)
-
--- ---- the cost
-
--- a coefficient times the scale is no larger than its multiple by a common multiple of the denominators
-scaled_le : (m l n : ℕ) (q : ℚ) → 0 < m → l ∣ m → q.den ∣ l → n ∣ nat_abs q.num → nat_abs (over_or_one l n *ℚ q).num ≤ nat_abs (multiple m q)
-scaled_le m l zero q some h p d =
-    let none : (whole (pos 1) *ℚ q).num ≡ pos 0 = num_zero (whole (pos 1) *ℚ q) (ring.mul_comm (whole (pos 1)) q ∙ ring.mul_one q ∙ zero_from_dvd q d) in
-    subst (λ z. nat_abs z ≤ nat_abs (multiple m q)) (sym none) (omega arith)
-scaled_le m l (suc n) q some h p d =
-    let z = (frac (pos l) (suc n) *ℚ q).num in
-    let y = multiple m q in
-    let times : ℕ = m / l in
-    let is : l * times ≡ m = mul-div_cancel' l h in
-    let first : l * nat_abs q.num ≡ nat_abs z * (suc n * q.den) = cross_of_whole l (suc n) q z (omega arith) (sym (whole_product l (suc n) q p d)) in
-    let second : m * nat_abs q.num ≡ nat_abs y * (1 * q.den) = cross_of_whole m 1 q y (omega arith) (ap (λ t. t *ℚ q) (sym (whole-frac (pos m))) ∙ multiple_is m q (dvd_trans _ p h)) in
-    from_products m l times (suc n) q.den (nat_abs q.num) (nat_abs z) (nat_abs y) some (omega arith) (den_pos q) is first second
-  where
-    one_times : (n : ℕ) → n ≡ 1 * n
-    one_times n = omega arith
-
-    same : (t z n d : ℤ) → t *ℤ (z *ℤ (n *ℤ d)) ≡ d *ℤ (z *ℤ (t *ℤ n))
-    same t z n d = simp expand (omega linear)
-
-    turned : (t z n d : ℕ) → t * (z * (n * d)) ≡ d * (z * (t * n))
-    turned t z n d = ap nat_abs (same (pos t) (pos z) (pos n) (pos d))
-
-    from_products : (m l t n d x z y : ℕ) → 0 < m → 0 < n → 0 < d → l * t ≡ m → l * x ≡ z * (n * d) → m * x ≡ y * (1 * d) → z ≤ y
-    from_products m l zero n d x z y some above lowest e f g = absurd (omega (arith, e, mul-zero l))
-    from_products m l (suc t) n d x z y some above lowest e f g =
-        let products : d * y ≡ d * (z * (suc t * n)) = mul_comm d y ∙ ap (λ k. y * k) (one_times d) ∙ sym g ∙ ap (λ k. k * x) (sym e ∙ mul_comm l (suc t)) ∙ mul_assoc (suc t) l x ∙ ap (λ k. suc t * k) f ∙ turned (suc t) z n d in
-        let is : y ≡ z * (suc t * n) = eq_of_mul-eq-mul_left d lowest _ _ products in
-        let large : 1 ≤ suc t * n = mul-pos (omega arith) above in
-        omega (arith, is, mul-le-mul_left z large)
-
--- so the cost weighs no more than the objective's multiple
-cost_span : (m l n : ℕ) (a : List ℚ) (box : List Bounds) → 0 < m → l ∣ m → common_denominator a ∣ l → n ∣ common_numerator a → span (map (λ q. (over_or_one l n *ℚ q).num) a) box ≤ span (map (multiple m) a) box
-cost_span m l n [] box some h p d = omega arith
-cost_span m l n (q ∷ a) [] some h p d = omega arith
-cost_span m l n (q ∷ a) (bounds ∷ box) some h p d =
-    let first : nat_abs (over_or_one l n *ℚ q).num ≤ nat_abs (multiple m q) = scaled_le m l n q some h (dvd_trans _ (dvd_lcm_left q.den (common_denominator a)) p) (dvd_trans _ d (gcd_dvd_left (nat_abs q.num) (common_numerator a))) in
-    let rest : span (map (λ q. (over_or_one l n *ℚ q).num) a) box ≤ span (map (multiple m) a) box = cost_span m l n a box some h (dvd_trans _ (dvd_lcm_right q.den (common_denominator a)) p) (dvd_trans _ d (gcd_dvd_right (nat_abs q.num) (common_numerator a))) in
-    add-le-add (mul-le-mul_right (reach bounds) first) rest
-
--- where the objective is not large, the cost spans at most 2^96
-pub cost_light : (model : Model) → (IsLargeObjective model → ⊥) → span (cost model) (integer_rows model).whole.box ≤ 2 ^ 96
-cost_light model h =
-    let m = common_denominator (objective_numbers model) in
-    let a = objective_of model in
-    let box = (integer_rows model).whole.box in
-    let less : span (cost model) box ≤ span (map (multiple m) a) box = cost_span m (common_denominator a) (common_numerator a) a box (common_denominator_pos (objective_numbers model)) (dvd_lcm_right model.constant.den (common_denominator a)) (dvd_refl _) (dvd_refl _) in
-    omega (arith, less, objective_light model h)

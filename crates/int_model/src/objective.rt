@@ -51,6 +51,7 @@ pub(crate) fn set_objective(
 
 /// What makes a value of a sum of costs, from the scale of the objective's coefficients and the span of the costs; none
 /// where the objective is large.
+#[tactic(auto, using(crate::proofs::ScaleLaws::common_denominator_pos, crate::proofs::CheckedProductLaws::above_zero, crate::proofs::ObjectiveLaws::constant_found, crate::proofs::ObjectiveLaws::constant_not_found, crate::proofs::ObjectiveLaws::divisor_found, crate::proofs::ObjectiveLaws::divisor_not_found, crate::proofs::ObjectiveLaws::factor_found, crate::proofs::ObjectiveLaws::factor_not_found, crate::proofs::ObjectiveLaws::first_not_found, crate::proofs::ObjectiveLaws::objective_is_small, crate::proofs::ObjectiveLaws::total_found, crate::proofs::ObjectiveLaws::total_not_found))]
 fn terms_of(scale: &RowScale, span: u128, model: &Model) -> Option<ValueTerms>
     requires denominator { scale.now.denominator ≡ pos (common_denominator (objective_of model.now)) }
     requires numerator { scale.now.numerator ≡ pos (common_numerator (objective_of model.now)) }
@@ -76,6 +77,7 @@ fn terms_of(scale: &RowScale, span: u128, model: &Model) -> Option<ValueTerms>
 
 /// The divisor over the denominator, times the numerator, and the divisor where that is 0; none where this is above
 /// 2^127 - 1.
+#[tactic(auto, using(crate::proofs::CheckedProductLaws::factor_answered))]
 fn value_factor(divisor: i128, denominator: i128, numerator: i128) -> Option<i128>
     requires divisor { pos 0 ≤ℤ divisor }
     requires denominator { pos 0 <ℤ denominator }

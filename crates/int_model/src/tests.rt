@@ -197,12 +197,6 @@ fn a_value_is_that_of_the_objective(rt: HostRuntime) -> Result<(), Fail> {
     Ok(())
 }
 
-/// A program, and its first part that is too large.
-struct Case<'a> {
-    program: Program<'a>,
-    large: Option<Part>,
-}
-
 /// 2 to the powers 96 and 126.
 const HEAVIEST: i128 = 1 << 96;
 
@@ -222,9 +216,13 @@ const ABOVE: Line<'static> = Line {
     high: Some((HEAVIEST, 1)),
 };
 
+const FINE_FACTORS: &[Ratio] = &[(1, 1 << 64), (1, (1 << 64) - 1)];
+
+const WIDE_FACTORS: &[Ratio] = &[(WIDE, 1), (1, 4)];
+
 /// x/2^64 + y/(2^64 - 1) >= 0, over a common denominator of about 2^128.
 const FINE: Line<'static> = Line {
-    factors: &[(1, 1 << 64), (1, (1 << 64) - 1)],
+    factors: FINE_FACTORS,
     low: Some((0, 1)),
     high: None,
 };
@@ -244,201 +242,82 @@ const FINE_ZERO: Line<'static> = Line {
 };
 
 /// 2^126 x + y/4 >= 0, of which 4 times the first factor is out of range.
-const WIDE_FACTORS: Line<'static> = Line {
-    factors: &[(WIDE, 1), (1, 4)],
+const WIDE_ROW: Line<'static> = Line {
+    factors: WIDE_FACTORS,
     low: Some((0, 1)),
     high: None,
 };
 
+/// The bounds, the rows, the objective and its constant, and the first part that is too large.
+type Case<'a> = (
+    &'a [(Ratio, Ratio)],
+    &'a [Line<'a>],
+    &'a [Ratio],
+    Ratio,
+    Option<Part>,
+);
+
+const ZERO: Ratio = (0, 1);
+
+const OBJECTIVE: Option<Part> = Some(Part::Objective);
+
+const TWO: &[(Ratio, Ratio)] = &[BINARY, BINARY];
+
+/// Columns of weight 2^96, and of one more.
+const LIGHT: &[(Ratio, Ratio)] = &[((-HEAVIEST, 1), ZERO), (ZERO, (2 * HEAVIEST + 1, 2))];
+
+const HEAVY: &[(Ratio, Ratio)] = &[(ZERO, (HEAVIEST + 1, 1))];
+
+const SECOND_HEAVY: &[(Ratio, Ratio)] = &[BINARY, ((-HEAVIEST - 1, 1), ZERO)];
+
 const CASES: &[Case<'static>] = &[
-    // Columns of weight 2^96, and of one more.
-    Case {
-        program: Program {
-            bounds: &[((-HEAVIEST, 1), (0, 1)), ((0, 1), (2 * HEAVIEST + 1, 2))],
-            lines: &[],
-            objective: &[],
-            constant: (0, 1),
-        },
-        large: None,
-    },
-    Case {
-        program: Program {
-            bounds: &[((0, 1), (HEAVIEST + 1, 1))],
-            lines: &[],
-            objective: &[],
-            constant: (0, 1),
-        },
-        large: Some(Part::Column(0)),
-    },
-    Case {
-        program: Program {
-            bounds: &[BINARY, ((-HEAVIEST - 1, 1), (0, 1))],
-            lines: &[],
-            objective: &[],
-            constant: (0, 1),
-        },
-        large: Some(Part::Column(1)),
-    },
+    (LIGHT, &[], &[], ZERO, None),
+    (HEAVY, &[], &[], ZERO, Some(Part::Column(0))),
+    (SECOND_HEAVY, &[], &[], ZERO, Some(Part::Column(1))),
     // Rows of weight 2^96, and of one more.
-    Case {
-        program: Program {
-            bounds: &[BINARY, BINARY],
-            lines: &[AT_MOST],
-            objective: &[],
-            constant: (0, 1),
-        },
-        large: None,
-    },
-    Case {
-        program: Program {
-            bounds: &[BINARY, BINARY],
-            lines: &[AT_MOST, ABOVE],
-            objective: &[],
-            constant: (0, 1),
-        },
-        large: Some(Part::Row(1)),
-    },
-    Case {
-        program: Program {
-            bounds: &[BINARY, BINARY],
-            lines: &[ABOVE, ABOVE],
-            objective: &[],
-            constant: (0, 1),
-        },
-        large: Some(Part::Row(0)),
-    },
+    (TWO, &[AT_MOST], &[], ZERO, None),
+    (TWO, &[AT_MOST, ABOVE], &[], ZERO, Some(Part::Row(1))),
+    (TWO, &[ABOVE, ABOVE], &[], ZERO, Some(Part::Row(0))),
     // Objectives of weight 2^96, and of one more.
-    Case {
-        program: Program {
-            bounds: &[BINARY, BINARY],
-            lines: &[],
-            objective: &[(HEAVIEST - 1, 1)],
-            constant: (-1, 1),
-        },
-        large: None,
-    },
-    Case {
-        program: Program {
-            bounds: &[BINARY, BINARY],
-            lines: &[],
-            objective: &[(HEAVIEST - 1, 1)],
-            constant: (-2, 1),
-        },
-        large: Some(Part::Objective),
-    },
-    Case {
-        program: Program {
-            bounds: &[BINARY, BINARY],
-            lines: &[],
-            objective: &[(HEAVIEST, 2)],
-            constant: (1, 2),
-        },
-        large: Some(Part::Objective),
-    },
+    (TWO, &[], &[(HEAVIEST - 1, 1)], (-1, 1), None),
+    (TWO, &[], &[(HEAVIEST - 1, 1)], (-2, 1), OBJECTIVE),
+    (TWO, &[], &[(HEAVIEST, 2)], (1, 2), OBJECTIVE),
     // Columns before rows, and rows before the objective.
-    Case {
-        program: Program {
-            bounds: &[BINARY, ((0, 1), (HEAVIEST + 1, 1))],
-            lines: &[ABOVE],
-            objective: &[(HEAVIEST + 1, 1)],
-            constant: (0, 1),
-        },
-        large: Some(Part::Column(1)),
-    },
-    Case {
-        program: Program {
-            bounds: &[BINARY, BINARY],
-            lines: &[AT_MOST, ABOVE],
-            objective: &[(HEAVIEST + 1, 1)],
-            constant: (0, 1),
-        },
-        large: Some(Part::Row(1)),
-    },
+    (
+        SECOND_HEAVY,
+        &[ABOVE],
+        &[(WIDE, 1)],
+        ZERO,
+        Some(Part::Column(1)),
+    ),
+    (TWO, &[ABOVE], &[(WIDE, 1)], ZERO, Some(Part::Row(0))),
     // Common denominators above 2^127 - 1.
-    Case {
-        program: Program {
-            bounds: &[BINARY, BINARY],
-            lines: &[FINE],
-            objective: &[],
-            constant: (0, 1),
-        },
-        large: Some(Part::Row(0)),
-    },
-    Case {
-        program: Program {
-            bounds: &[BINARY, BINARY],
-            lines: &[],
-            objective: &[(1, 1 << 64), (1, (1 << 64) - 1)],
-            constant: (0, 1),
-        },
-        large: Some(Part::Objective),
-    },
-    Case {
-        program: Program {
-            bounds: &[BINARY, BINARY],
-            lines: &[],
-            objective: &[(1, 2)],
-            constant: (1, i128::MAX),
-        },
-        large: Some(Part::Objective),
-    },
+    (TWO, &[FINE], &[], ZERO, Some(Part::Row(0))),
+    (TWO, &[], FINE_FACTORS, ZERO, OBJECTIVE),
+    (TWO, &[], &[(1, 2)], (1, i128::MAX), OBJECTIVE),
     // Products with the scale that are out of range, and none where all factors are 0.
-    Case {
-        program: Program {
-            bounds: &[BINARY, BINARY],
-            lines: &[FINE_SIDE],
-            objective: &[],
-            constant: (0, 1),
-        },
-        large: Some(Part::Row(0)),
-    },
-    Case {
-        program: Program {
-            bounds: &[BINARY, BINARY],
-            lines: &[FINE_ZERO],
-            objective: &[],
-            constant: (0, 1),
-        },
-        large: None,
-    },
-    Case {
-        program: Program {
-            bounds: &[BINARY, BINARY],
-            lines: &[WIDE_FACTORS],
-            objective: &[],
-            constant: (0, 1),
-        },
-        large: Some(Part::Row(0)),
-    },
-    Case {
-        program: Program {
-            bounds: &[BINARY, BINARY],
-            lines: &[],
-            objective: &[(WIDE, 1), (1, 4)],
-            constant: (0, 1),
-        },
-        large: Some(Part::Objective),
-    },
-    Case {
-        program: Program {
-            bounds: &[BINARY, BINARY],
-            lines: &[],
-            objective: &[(1, 4)],
-            constant: (WIDE, 1),
-        },
-        large: Some(Part::Objective),
-    },
+    (TWO, &[FINE_SIDE], &[], ZERO, Some(Part::Row(0))),
+    (TWO, &[FINE_ZERO], &[], ZERO, None),
+    (TWO, &[WIDE_ROW], &[], ZERO, Some(Part::Row(0))),
+    (TWO, &[], WIDE_FACTORS, ZERO, OBJECTIVE),
+    (TWO, &[], &[(1, 4)], (WIDE, 1), OBJECTIVE),
 ];
 
 #[test]
 fn the_first_large_part_is_named(rt: HostRuntime) -> Result<(), Fail> {
-    for (i, case) in CASES.iter().enumerate() {
-        let large = match int_rows(rt.alloc(), &case.program)? {
+    for (i, (bounds, lines, objective, constant, wanted)) in CASES.iter().enumerate() {
+        let program = Program {
+            bounds,
+            lines,
+            objective,
+            constant: *constant,
+        };
+        let large = match int_rows(rt.alloc(), &program)? {
             Ok(_rows) => None,
             Err(RowsStop::Large(part)) => Some(part),
             Err(stop) => return Err(stop)?,
         };
-        assert_eq!(rt; large, case.large, "case {i}");
+        assert_eq!(rt; large, *wanted, "case {i}");
     }
     Ok(())
 }

@@ -1,5 +1,5 @@
 -- The parts that the code cuts from a text are those of the number that it is.
-use Rattle.std.proofs.Common.{◌≡◌, ℕ, suc, ◌+◌, ◌-◌, ◌<◌, ◌≤◌, true, false, true≢false, cond, eqb, List, [], ◌∷◌, ◌++◌, length, take, drop, get_or, Option, Some, None, pos, ◌-ℤ◌, refl, sym, ap, subst, ◌∙◌, arith, sub-one}
+use Rattle.std.proofs.Common.{◌≡◌, ℕ, suc, ◌+◌, ◌-◌, ◌<◌, ◌≤◌, true, false, cond, eqb, List, [], ◌∷◌, ◌++◌, length, take, drop, get_or, Option, Some, None, pos, ◌-ℤ◌, refl, sym, ap, subst, ◌∙◌, arith, sub-one}
 use Rattle.std.specs.List.{list_all}
 use Rattle.std.proofs.lemmas.List.{nil_from_length, length-append}
 use Rattle.std.proofs.lemmas.List.Folds.{list_all-append}
@@ -14,11 +14,6 @@ use Rattle.std.proofs.lemmas.Bool.{and_from}
 use Rattle.mps_fields.specs.BooleanLaws.{either}
 use Rattle.mps_fields.specs.FrontLaws.{front-all}
 use Rattle.mps_fields.specs.ReadingLaws.{is_digits-all}
-
--- a text with a byte has digits alone where each byte is a digit
-pub nonempty_digits : (text : List ℕ) → eqb (length text) 0 ≡ false → list_all is_digit text ≡ is_digits text
-nonempty_digits [] h = absurd (true≢false h)
-nonempty_digits (byte ∷ bytes) h = refl
 
 -- a text with a byte is its first byte and the rest
 pub head_and_rest : (text : List ℕ) → 1 ≤ length text → text ≡ get_or text 0 0 ∷ take (length text - 1) (drop 1 text)

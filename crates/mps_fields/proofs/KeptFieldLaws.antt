@@ -1,9 +1,7 @@
 -- The first six fields, which the code keeps.
-use Rattle.std.proofs.Common.{◌≡◌, ◌⊎◌, inl, inr, min, ℕ, ◌+◌, ◌<◌, ◌≤◌, List, [], ◌∷◌, ◌++◌, length, take, map, get_or, set, Some, sym, ap, ◌∙◌, arith, add-one}
-use Rattle.std.specs.Prelude.{slice_get}
-use Rattle.std.proofs.lemmas.List.{take-map, map-set, length-map, length-take, length-append, take_all, take-append-le, get_or-map, get_or-take}
+use Rattle.std.proofs.Common.{◌≡◌, ◌⊎◌, inl, inr, min, ℕ, ◌+◌, ◌<◌, ◌≤◌, List, [], ◌∷◌, ◌++◌, length, take, map, set, sym, ap, ◌∙◌, arith, add-one}
+use Rattle.std.proofs.lemmas.List.{take-map, map-set, length-map, length-take, length-append, take_all, take-append-le}
 use Rattle.std.proofs.lemmas.Bool.{cases_lt}
-use Rattle.std.proofs.lemmas.Option.{slice_get-get_or}
 use Rattle.std.proofs.Math.Seq.{take-suc-set}
 use Rattle.mps_fields.specs.FreeFields.{Span}
 use Rattle.mps_fields.specs.FieldViews.{field_span}
@@ -30,13 +28,6 @@ kept_full fields count span six many =
     let len : length spans ≡ 6 = length-map fields field_span ∙ six in
     let all : kept fields count ≡ spans = take_all count spans (omega arith) in
     take_all (count + 1) spans (omega arith) ∙ sym (ap (λ s. take 6 (s ++ span ∷ [])) all ∙ take-append-le 6 spans (span ∷ []) (omega arith) ∙ take_all 6 spans (omega arith))
-
--- the field at an index
-pub kept_at : (fields : List Field) (count i : ℕ) (d : Field) → length fields ≡ 6 → i < 6 → i < count → slice_get (kept fields count) i ≡ Some (field_span (get_or fields i d))
-kept_at fields count i d six small there =
-    let spans = map field_span fields in
-    let len : length spans ≡ 6 = length-map fields field_span ∙ six in
-    slice_get-get_or (kept fields count) i (field_span d) (omega (arith, length-take count spans)) ∙ ap Some (get_or-take count spans i (field_span d) there ∙ get_or-map field_span fields i d (field_span d) (omega arith))
 
 -- the fields that are kept, in order
 pub kept_all : (fields : List Field) (count : ℕ) → length fields ≡ 6 → map field_span (take (min count 6) fields) ≡ kept fields count

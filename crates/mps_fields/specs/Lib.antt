@@ -9,3 +9,4 @@ pub mod LineViews
 pub mod FieldViews
 pub mod BooleanLaws
 pub mod FrontLaws
+pub mod Computing

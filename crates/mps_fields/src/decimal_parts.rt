@@ -53,6 +53,7 @@ fn first_other(text: &[u8]) -> Option<usize>
 }
 
 // How many digits stand in front.
+#[tactic(auto, using(crate::specs::FrontLaws::lead_none))]
 fn digits_len(text: &[u8]) -> usize
     ensures len { result ≡ prefix_len digit text.now }
     ensures within { result ≤ length text.now }
@@ -94,6 +95,7 @@ fn cut_fraction(text: &[u8]) -> (&[u8], &[u8])
 }
 
 // The exponent that is all of a text.
+#[tactic(auto, using(crate::proofs::DecimalPartLaws::no_power, crate::proofs::DecimalPartLaws::power_is, crate::proofs::DecimalPartLaws::head_and_rest))]
 fn exponent(text: &[u8]) -> Option<Power<'_>>
     ensures { MatchOption result (exponent_of text.now ≡ None) (λ power. IsPowerOf power text.now) }
 {

@@ -30,6 +30,7 @@ fn with_digit(value: u128, digit: u8) -> Option<u128>
 }
 
 // The number whose digits are those of another number and then these.
+#[tactic(auto, using(crate::proofs::DigitLaws::continued_more, crate::proofs::DigitLaws::continued_all, crate::proofs::DigitLaws::continued_wide))]
 fn continued(number: u128, digits: &[u8]) -> Option<u128>
     requires small { number < 2 ^ 127 }
     requires digits { AllDigits digits.now }
@@ -42,6 +43,7 @@ fn continued(number: u128, digits: &[u8]) -> Option<u128>
     Some(value)
 }
 
+#[tactic(auto, using(crate::proofs::DigitLaws::joined_is, crate::proofs::DigitLaws::joined_wide))]
 fn joined(whole: &[u8], fraction: &[u8]) -> Option<u128>
     requires whole { AllDigits whole.now }
     requires fraction { AllDigits fraction.now }
@@ -60,6 +62,7 @@ fn signed(is_negative: bool, size: u128) -> i128
     if is_negative { -number } else { number }
 }
 
+#[tactic(auto, using(crate::proofs::DigitLaws::power_small, crate::proofs::DigitLaws::power_pos))]
 fn power_of_ten(zeros: u128) -> u128
     requires { zeros ≤ 38 }
     ensures value { result ≡ 10 ^ zeros }
@@ -80,6 +83,7 @@ fn fraction(is_negative: bool, size: u128, divisor: u128) -> Frac
 }
 
 // A number with zeros behind it.
+#[tactic(auto, using(crate::proofs::DigitLaws::power_large))]
 fn raised(is_negative: bool, size: u128, zeros: u128) -> Option<Frac>
     requires { 0 < size }
     ensures { let product = size * 10 ^ zeros in
@@ -107,6 +111,7 @@ fn lowered(is_negative: bool, size: u128, places: u128) -> Option<Frac>
 }
 
 /// The number with these parts, where it fits.
+#[tactic(auto, using(crate::proofs::PowerOfTenLaws::large_mantissa, crate::proofs::PowerOfTenLaws::zero_fits, crate::proofs::PowerOfTenLaws::large_power, crate::proofs::PowerOfTenLaws::down, crate::proofs::PowerOfTenLaws::negative_power, crate::proofs::PowerOfTenLaws::scales_same))]
 pub(crate) fn value(parts: &Parts) -> Option<Frac>
     requires { HasDigits parts.now }
     ensures { SomeIff result (PartsFit parts.now) (parts_value parts.now) }

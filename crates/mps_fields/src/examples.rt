@@ -1,4 +1,6 @@
 //! Worked values of the definitions, and the law that a text is read in one way.
+#![tactic(auto, unfolding(crate::specs::Computing::computed))]
+
 ghost use Rattle.std.specs.Prelude.{◌≡◌, ◌↔◌, ◌+◌, ◌-◌, ◌≤◌, IfSome, ℕ, not, List, [], ◌∷◌, ◌++◌, filter, replicate, codes, Some, None, Ok, Err, pos, negsuc, true, false};
 ghost use Rattle.std.specs.List.{range_with_len};
 ghost use Rattle.exact_math.specs.Rational.{frac, whole};
@@ -69,11 +71,13 @@ pub fn one_reading()
 {}
 
 /// The fields of a line in free form are all its runs of bytes other than blank and tab, in rising order, each at its place.
+#[tactic(auto, using(crate::proofs::FreeFieldLaws::free_fields_are))]
 pub fn free_fields_are_runs()
     ensures { (line : List ℕ) → AreFields line 0 (free_fields line) }
 {}
 
 /// A field in fixed form stands at its place in the line, within its columns; the columns of two fields have none in common.
+#[tactic(auto, using(crate::proofs::FixedFieldLaws::field_lies))]
 pub fn fixed_fields_lie_in_columns()
     ensures { (first last : ℕ) (line : List ℕ) → 1 ≤ first → first ≤ last + 1 → IfSome (field_between first last line) (LiesBetween first last line) }
 {}

@@ -82,6 +82,7 @@ impl<'a> FreeFields<'a> {
     }
 
     /// The first six fields, in order.
+    #[tactic(auto, using(crate::proofs::KeptFieldLaws::kept_all))]
     pub fn fields(&self) -> &[Field<'a>]
         ensures spans { map field_span result.now ≡ self.now.fields }
         ensures line { All (λ field. field.line ≡ self.now.number) result.now }

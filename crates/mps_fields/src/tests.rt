@@ -6,84 +6,55 @@ fn terms(text: &[u8]) -> Result<(i128, i128), NumberFault> {
     Ok((q.num(), q.den()))
 }
 
-#[test]
-fn reads_numbers(rt: HostRuntime) {
-    let rows: [(&[u8], i128, i128); 24] = [
-        (b"0", 0, 1),
-        (b"-0", 0, 1),
-        (b"7", 7, 1),
-        (b"+7", 7, 1),
-        (b"-120", -120, 1),
-        (b"007", 7, 1),
-        (b"1.", 1, 1),
-        (b".5", 1, 2),
-        (b"-12.50", -25, 2),
-        (b"1.5e3", 1500, 1),
-        (b"1.5E+3", 1500, 1),
-        (b"15d-1", 3, 2),
-        (b"15D-1", 3, 2),
-        (
-            b"1e-0000000000038",
-            1,
-            100_000_000_000_000_000_000_000_000_000_000_000_000,
-        ),
-        (
-            b"10e-38",
-            1,
-            10_000_000_000_000_000_000_000_000_000_000_000_000,
-        ),
-        (b"0e999999999999999999999", 0, 1),
-        (
-            b"-0.000e-999999999999999999999999999999999999999999999999999999",
-            0,
-            1,
-        ),
-        (b"0.00000000000000000000000000000000000000000001e44", 1, 1),
-        (b"0.00000000000000000000000000000000000000000001e45", 10, 1),
-        (b"170141183460469231731687303715884105727", i128::MAX, 1),
-        (b"-170141183460469231731687303715884105727", -i128::MAX, 1),
-        (b"1701411834604692317316873037158841057.27e2", i128::MAX, 1),
-        (
-            b"1e38",
-            100_000_000_000_000_000_000_000_000_000_000_000_000,
-            1,
-        ),
-        (
-            b"000000000000000000000000000000000000000000000000001e-000",
-            1,
-            1,
-        ),
-    ];
-    for (text, num, den) in rows {
-        assert_eq!(rt; terms(text), Ok((num, den)));
-    }
-}
-
-#[test]
-fn refuses_wide_numbers(rt: HostRuntime) {
-    let rows: [&[u8]; 8] = [
-        b"170141183460469231731687303715884105728",
-        b"-170141183460469231731687303715884105728",
-        b"1e39",
-        b"2e38",
-        b"10e-39",
+const TEXTS: [(&[u8], Result<(i128, i128), NumberFault>); 20] = [
+    (b"-0", Ok((0, 1))),
+    (b"+7", Ok((7, 1))),
+    (b"007", Ok((7, 1))),
+    (b"-12.50", Ok((-25, 2))),
+    (b"1.5E+3", Ok((1500, 1))),
+    (b"15d-1", Ok((3, 2))),
+    (b"0e999999999999999999999", Ok((0, 1))),
+    (
+        b"-0.000e-99999999999999999999999999999999999999",
+        Ok((0, 1)),
+    ),
+    (
+        b"0.00000000000000000000000000000000000000000001e45",
+        Ok((10, 1)),
+    ),
+    (
+        b"1701411834604692317316873037158841057.27e2",
+        Ok((i128::MAX, 1)),
+    ),
+    (
+        b"000000000000000000000000000000000000000000000000001e-000",
+        Ok((1, 1)),
+    ),
+    (b"2e38", Err(NumberFault::WideNumber)),
+    (
         b"0.000000000000000000000000000000000000001",
-        b"1e-999999999999999999999999999999999999999999999999999999",
-        b"1e999999999999999999999999999999999999999999999999999999",
-    ];
-    for text in rows {
-        assert_eq!(rt; terms(text), Err(NumberFault::WideNumber));
-    }
-}
+        Err(NumberFault::WideNumber),
+    ),
+    (
+        b"1e-99999999999999999999999999999999999999",
+        Err(NumberFault::WideNumber),
+    ),
+    (
+        b"1e99999999999999999999999999999999999999",
+        Err(NumberFault::WideNumber),
+    ),
+    (b"-.", Err(NumberFault::NotNumber)),
+    (b"1 ", Err(NumberFault::NotNumber)),
+    (b".e5", Err(NumberFault::NotNumber)),
+    (b"1e5.0", Err(NumberFault::NotNumber)),
+    (b"0x10", Err(NumberFault::NotNumber)),
+];
 
+// More texts are worked in `examples`.
 #[test]
-fn refuses_other_texts(rt: HostRuntime) {
-    let rows: [&[u8]; 16] = [
-        b"", b".", b"+", b"-.", b"--1", b"1.2.3", b"1 ", b" 1", b"e5", b".e5", b"1e", b"1e+",
-        b"1e5.0", b"1f5", b"0x10", b"inf",
-    ];
-    for text in rows {
-        assert_eq!(rt; terms(text), Err(NumberFault::NotNumber));
+fn texts_are_numbers_or_none(rt: HostRuntime) {
+    for (text, wanted) in TEXTS {
+        assert_eq!(rt; terms(text), wanted);
     }
 }
 
@@ -144,12 +115,6 @@ fn cuts_fixed_fields(rt: HostRuntime) {
         assert_eq!(rt; (field.line, field.at), (9, at));
     }
     assert!(rt; found.field(5).is_none());
-}
-
-#[test]
-fn refuses_lines_out_of_columns(rt: HostRuntime) {
-    let rows: [&[u8]; 4] = [b"x", b" UP B\tx", b" UPxB", b"    B       1x"];
-    for bytes in rows {
-        assert!(rt; fields_fixed(&TextLine { bytes, number: 1 }).is_none());
-    }
+    let bytes = b" UPxB";
+    assert!(rt; fields_fixed(&TextLine { bytes, number: 1 }).is_none());
 }

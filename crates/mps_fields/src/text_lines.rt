@@ -85,6 +85,7 @@ fn piece_len(text: &[u8]) -> usize
 }
 
 // The bytes before the first line feed, and those behind it.
+#[tactic(auto, using(crate::proofs::LineLaws::first_piece, crate::proofs::LineLaws::last_piece))]
 fn cut_piece(text: &[u8]) -> (&[u8], &[u8])
     requires { 0 < length text.now }
     ensures piece { pieces_of text.now ≡ result.0.now ∷ pieces_of result.1.now }

@@ -79,11 +79,6 @@ name_at name (x ∷ xs) (suc i) h = name_at name xs i h.1
 abbrev pub said : List ℕ → List ℕ → RowLine
 said letters name = record { kind = letters; name = name }
 
-all_at : {X Y : Type 0} (P : Y → Type 0) (f : X → Y) (xs : List X) (i : ℕ) (x : X) → AllByRecursion P (map f xs) → slice_get xs i ≡ Some x → P (f x)
-all_at P f [] i x all e = cc
-all_at P f (y ∷ ys) zero x all e = subst (λ z. P (f z)) (same_Some y x e) all.0
-all_at P f (y ∷ ys) (suc i) x all e = all_at P f ys i x all.1 e
-
 -- the row at the place of a name, by its kind
 pub row_found : (rows : List RowLine) (name : List ℕ) (i : ℕ) (kind : RowKind) → IsFirst (bytes_eq name) (row_names rows) i
     → IfSome (slice_get rows i) (λ row. row.kind ≡ letter_of kind) → find (λ row. bytes_eq row.name name) rows ≡ Some (row_of kind name)
@@ -93,15 +88,3 @@ row_found (x ∷ xs) name zero kind h k =
     ∙ ap₂ (λ letters n. Some (said letters n)) k (sym (same_bytes name x.name h))
 row_found (x ∷ xs) name (suc i) kind h k =
     ap (λ b. cond b (Some x) (find (λ row. bytes_eq row.name name) xs)) (bytes_flip x.name name ∙ h.0) ∙ row_found xs name i kind h.1 k
-
--- a row is the one of its name
-pub row_of_name : (rows : List RowLine) (i : ℕ) (row : RowLine) → IsDistinct bytes_eq (row_names rows) → slice_get rows i ≡ Some row
-    → find (λ other. bytes_eq other.name row.name) rows ≡ Some row
-row_of_name [] i row distinct e = cc
-row_of_name (x ∷ xs) zero row distinct e =
-    let same = same_Some x row e in
-    ap (λ b. cond b (Some x) (find (λ other. bytes_eq other.name row.name) xs)) (ap (λ r. bytes_eq r.name row.name) same ∙ bytes_same row.name) ∙ ap Some same
-row_of_name (x ∷ xs) (suc i) row distinct e =
-    let differ = all_at (λ other. bytes_eq x.name other ≡ false) (λ r. r.name) xs i row (IsDistinct-head bytes_eq x.name (row_names xs) distinct) e in
-    ap (λ b. cond b (Some x) (find (λ other. bytes_eq other.name row.name) xs)) differ
-    ∙ row_of_name xs i row (IsDistinct-tail bytes_eq x.name (row_names xs) distinct) e

@@ -2,11 +2,22 @@
 -- smallest that shows its rule.
 use Rattle.std.specs.Prelude.{Some, ℕ, List, [], ◌∷◌, ◌++◌, map, flat_map, ℤ, pos, Option, option_map, codes}
 use Rattle.std.specs.List.{range_with_len}
+use Rattle.exact_math.specs.Rational.{whole, ◌+ℚ◌, neg_ℚ}
+use Rattle.mps_fields.specs.Computing as fields
 use Rattle.mps_model.specs.Tables.{RowLine, ColumnLine, entries, Tables}
-use Rattle.exact_math.specs.Rational.{whole}
+use Rattle.mps_model.specs.Bounds.{without_repeats}
+use Rattle.mps_model.specs.StatedModel.{stated, means}
+use Rattle.mps_model.specs.PairFaults.{pairs_fault}
+use Rattle.mps_model.specs.LineFaults.{line_fault}
+use Rattle.mps_model.specs.Meaning.{first_line_fault, fault_at, meaning}
 use Rattle.int_model.specs.declared.model.Item.{Item}
 use Rattle.int_model.specs.declared.model.Column.{Column}
 use Rattle.int_model.specs.declared.model.Row.{Row}
+
+-- to unfold this is to unfold all that the meaning of a text is computed with
+unfoldable pub computed : Unit {0}
+unfolding fields.computed ◌+ℚ◌ neg_ℚ without_repeats stated means pairs_fault line_fault first_line_fault fault_at meaning
+computed = tt
 
 -- a text of lines, each with a line feed behind it
 abbrev pub text_of : List (List ℕ) → List ℕ

@@ -1,4 +1,6 @@
 //! Worked values of the definitions, and the law that a text has one meaning.
+#![tactic(auto, unfolding(crate::specs::WorkedTexts::computed))]
+
 ghost use Rattle.std.specs.Prelude.{◌≡◌, ◌↔◌, ℕ, ℤ, List, [], ◌∷◌, ◌++◌, codes, replicate, take, Option, Some, None, Ok, Err, pos, negsuc, true, false};
 ghost use Rattle.exact_math.specs.Rational.{frac, whole};
 ghost use Rattle.int_model.specs.declared.model.Model.{Model};

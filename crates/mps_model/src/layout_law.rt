@@ -15,6 +15,7 @@ pub fn fixed_reads_free()
 
 /// The market split in fixed form can be read in free form; a name with a blank and a word behind column 61 cannot, and a
 /// bound without a set name becomes another one.
+#[tactic(auto, unfolding(crate::specs::WorkedTexts::computed))]
 pub fn worked_free_readings()
     ensures split { ReadsFree split_fixed }
     ensures blank_in_name { list_all has_whole_fields (data_lines (by_columns (codes "X 1     "))) ≡ false }

@@ -42,14 +42,6 @@ fn each_section(rt: HostRuntime) -> Result<(), Fail> {
     expect_text(&rt, rt.alloc(), &stated(&rt, rt.alloc(), text)?, text)
 }
 
-#[test]
-fn market_of_ten_rows(rt: HostRuntime) -> Result<(), Fail> {
-    let model = market(rt.alloc(), 10, 100, 7)?;
-    let text = write(rt.alloc(), &model)?;
-    let again = stated(&rt, rt.alloc(), text.items())?;
-    expect_text(&rt, rt.alloc(), &again, text.items())
-}
-
 // A fraction, the name of the objective on a row, and the word of a marker line on one.
 #[test]
 fn not_plain(rt: HostRuntime) -> Result<(), Fail> {

@@ -1,4 +1,4 @@
-use Rattle.std.proofs.Common.{rules, ◌≡◌, ℕ, ◌<◌, ◌^◌, ◌+◌, ◌*◌, ℤ, pos, ◌<ℤ◌, nat_abs, FitsSigned, sym, subst}
+use Rattle.std.proofs.Common.{rules, ◌≡◌, ◌<◌, ◌^◌, ◌+◌, ◌*◌, pos, nat_abs, FitsSigned}
 use Rattle.std.specs.Int.{w128}
 use Rattle.std.proofs.lemmas.Int.{to_z-of_z}
 use Rattle.int_model.specs.Scale.{common_denominator, common_numerator}
@@ -6,25 +6,9 @@ use Rattle.int_model.specs.IntegerRows.{objective_of, integer_rows, cost}
 use Rattle.whole_rows.specs.WholeRows.{span}
 use Rattle.int_model.specs.ObjectiveValues.{value_factor}
 use Rattle.int_model.specs.Large.{objective_numbers, multiple}
-use Rattle.int_model.proofs.ScaleLaws.{common_denominator_pos}
-use Rattle.int_model.proofs.CheckedProductLaws.{above_zero}
 use Rattle.int_model.proofs.ObjectiveLaws as laws
 use Rattle.int_model.proofs.objective.terms_of.Goals as goal
 use Rattle.int_model.proofs.objective.terms_of.Goals.{In_ok-divisor, In_ok-factor, In_ok-sum}
-
-above : (z : ℤ) (n : ℕ) → 0 < n → z ≡ pos n → pos 0 <ℤ z
-above z n h e = subst (λ z. pos 0 <ℤ z) (sym e) (above_zero n h)
-
-pub lcm-requires-clause-b_positive : goal.lcm-requires-clause-b_positive
-lcm-requires-clause-b_positive c =
-    let fits : FitsSigned w128 c.args.scale.now.denominator = search rules in
-    simp to_z-of_z (above c.args.scale.now.denominator _ (common_denominator_pos (objective_of c.args.model.now)) c.requires.denominator)
-
-pub returns-in_err-divisor-clause-large : goal.returns-in_err-divisor-clause-large
-returns-in_err-divisor-clause-large c =
-    let den_fits : FitsSigned w128 c.den.result = search rules in
-    let fits : FitsSigned w128 c.args.scale.now.denominator = search rules in
-    rw c.from_residual.ensures (laws.divisor_not_found c.args.model.now c.den.result c.args.scale.now.denominator c.den.ensures.value c.requires.denominator (simp to_z-of_z at c.in_err-divisor.ensures))
 
 -- the divisor is the common denominator of the objective's numbers
 divisor : (c : In_ok-divisor) → c.args.scale.now.denominator ≡ pos (common_denominator (objective_of c.args.model.now)) → (common_denominator (objective_numbers c.args.model.now) < 2 ^ 127) × (c.in_ok-divisor.divisor ≡ pos (common_denominator (objective_numbers c.args.model.now)))
@@ -32,25 +16,6 @@ divisor c is =
     let den_fits : FitsSigned w128 c.den.result = search rules in
     let fits : FitsSigned w128 c.args.scale.now.denominator = search rules in
     laws.divisor_found c.args.model.now c.den.result c.args.scale.now.denominator c.in_ok-divisor.divisor c.den.ensures.value is (simp to_z-of_z at c.in_ok-divisor.ensures)
-
-pub returns-in_default-clause-large : goal.returns-in_default-clause-large
-returns-in_default-clause-large c =
-    let fits : FitsSigned w128 c.in_ok-divisor.divisor = search rules in
-    let is = c.requires.denominator in
-    laws.constant_not_found c.args.model.now c.in_ok-divisor.divisor (divisor (goal.at.returns-in_default-clause-large c).In_ok-divisor is).1 (simp to_z-of_z at (rw c.whole.ensures at c.in_default.ensures))
-
-pub value_factor-requires-clause-denominator : goal.value_factor-requires-clause-denominator
-value_factor-requires-clause-denominator c =
-    let fits : FitsSigned w128 c.args.scale.now.denominator = search rules in
-    simp to_z-of_z (above c.args.scale.now.denominator _ (common_denominator_pos (objective_of c.args.model.now)) c.requires.denominator)
-
-pub returns-in_err-factor-clause-large : goal.returns-in_err-factor-clause-large
-returns-in_err-factor-clause-large c =
-    let divisor_fits : FitsSigned w128 c.in_ok-divisor.divisor = search rules in
-    let denominator_fits : FitsSigned w128 c.args.scale.now.denominator = search rules in
-    let numerator_fits : FitsSigned w128 c.args.scale.now.numerator = search rules in
-    let is = c.requires.denominator in
-    rw c.from_residual-in_err-factor.ensures (laws.factor_not_found c.args.model.now c.in_ok-divisor.divisor c.args.scale.now.denominator c.args.scale.now.numerator (divisor (goal.at.returns-in_err-factor-clause-large c).In_ok-divisor is).1 is c.requires.numerator (simp to_z-of_z at c.in_err-factor.ensures))
 
 -- the constant times the divisor
 constant : (c : In_ok-factor) → c.in_ok-divisor.divisor ≡ pos (common_denominator (objective_numbers c.args.model.now)) → c.num-constant.result ≡ multiple (common_denominator (objective_numbers c.args.model.now)) c.args.model.now.constant
@@ -75,20 +40,6 @@ first c =
     let fits : FitsSigned w128 c.num-constant.result = search rules in
     simp to_z-of_z at c.in_ok-sum.ensures.1
 
-pub returns-in_err-sum-clause-large : goal.returns-in_err-sum-clause-large
-returns-in_err-sum-clause-large c =
-    let fits : FitsSigned w128 c.num-constant.result = search rules in
-    let is = c.requires.denominator in
-    let over = divisor (goal.at.returns-in_err-sum-clause-large c).In_ok-divisor is in
-    rw c.from_residual-in_err-sum.ensures (laws.first_not_found c.args.model.now c.num-constant.result (constant (goal.at.returns-in_err-sum-clause-large c).In_ok-factor over.1) (simp to_z-of_z at c.in_err-sum.ensures))
-
-pub returns-in_err-with_term-clause-large : goal.returns-in_err-with_term-clause-large
-returns-in_err-with_term-clause-large c =
-    let fits : FitsSigned w128 c.in_ok-factor.factor = search rules in
-    let is = c.requires.denominator in
-    let over = divisor (goal.at.returns-in_err-with_term-clause-large c).In_ok-divisor is in
-    rw c.from_residual-in_err-with_term.ensures (laws.total_not_found c.args.model.now c.num-constant.result c.in_ok-factor.factor c.in_ok-sum.sum c.args.span (constant (goal.at.returns-in_err-with_term-clause-large c).In_ok-factor over.1) (factor (goal.at.returns-in_err-with_term-clause-large c).In_ok-factor is over.1) (first (goal.at.returns-in_err-with_term-clause-large c).In_ok-sum) (spans (goal.at.returns-in_err-with_term-clause-large c).In_ok-sum) (simp to_z-of_z at c.in_err-with_term.ensures))
-
 pub returns-clause-terms : goal.returns-clause-terms
 returns-clause-terms c =
     let factor_fits : FitsSigned w128 c.in_ok-factor.factor = search rules in
@@ -100,13 +51,3 @@ returns-clause-terms c =
     let is_factor = factor (goal.at.returns-clause-terms c).In_ok-factor is over.1 in
     let total = laws.total_found c.args.model.now c.num-constant.result c.in_ok-factor.factor c.in_ok-sum.sum c.args.span is_constant is_factor (first (goal.at.returns-clause-terms c).In_ok-sum) (spans (goal.at.returns-clause-terms c).In_ok-sum) (simp to_z-of_z at c.in_ok-with_term.ensures.0) in
     simp to_z-of_z (laws.makes_values c.args.model.now (record { constant = c.num-constant.result; factor = c.in_ok-factor.factor; divisor = c.in_ok-divisor.divisor }) over.1 is_constant is_factor over.0 total)
-
-pub returns-clause-small : goal.returns-clause-small
-returns-clause-small c =
-    let factor_fits : FitsSigned w128 c.in_ok-factor.factor = search rules in
-    let is = c.requires.denominator in
-    let over = divisor (goal.at.returns-clause-small c).In_ok-divisor is in
-    let is_constant = constant (goal.at.returns-clause-small c).In_ok-factor over.1 in
-    let is_factor = factor (goal.at.returns-clause-small c).In_ok-factor is over.1 in
-    let total = laws.total_found c.args.model.now c.num-constant.result c.in_ok-factor.factor c.in_ok-sum.sum c.args.span is_constant is_factor (first (goal.at.returns-clause-small c).In_ok-sum) (spans (goal.at.returns-clause-small c).In_ok-sum) (simp to_z-of_z at c.in_ok-with_term.ensures.0) in
-    laws.objective_is_small c.args.model.now over.0 total
