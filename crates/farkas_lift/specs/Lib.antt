@@ -1,2 +1,4 @@
 pub mod Joined
 pub mod NodeEqualities
+pub mod NodeSides
+pub mod NodeSystem

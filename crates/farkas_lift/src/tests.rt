@@ -1,7 +1,8 @@
-//! 3x + 5y = 8 for x and y from 0 to 10.
-use crate::node_equalities;
+//! 3x + 5y = 8 for x and y from 0 to 10, with its frame x = 1 - 5k, y = 1 + 3k, k = (x - 1) + 2(y - 1), and the rest by hand.
+use crate::{kernel_system, node_equalities};
 use farkas_rows::{Path, Slice};
 use presolve_map::{Presolved, presolve};
+use reformulate::{Frame, Framed};
 use sequence::NoMemory;
 use spaces::Form;
 use std::alloc::Global;
@@ -34,5 +35,27 @@ fn rows_and_slices_are_equalities(rt: HostRuntime) -> Result<(), Fail> {
     assert_eq!(rt; equalities.items()[0].side, 8);
     assert_eq!(rt; equalities.items()[1].form.items(), [1, 0].as_slice());
     assert_eq!(rt; equalities.items()[1].side, 6);
+    Ok(())
+}
+
+#[test]
+fn bounds_of_two_coins(rt: HostRuntime) -> Result<(), Fail> {
+    let rows = two_coins(rt.alloc())?;
+    let Presolved::Open { map: _, rows: work } = presolve(rt.alloc(), &rows)? else {
+        return Err(NoMemory)?;
+    };
+    let path = Path::new(rt.alloc());
+    let equalities = node_equalities(rt.alloc(), &work, &path)?;
+    let Ok(Framed::Frame(frame)) = Frame::of(rt.alloc(), work.columns(), &equalities) else {
+        return Err(NoMemory)?;
+    };
+    let system = kernel_system(rt.alloc(), &frame, &work, Some(10))?;
+    assert_eq!(rt; system.rows.rows(), 5);
+    assert_eq!(rt; system.rows.row(0), [-5].as_slice());
+    assert_eq!(rt; system.rows.row(1), [5].as_slice());
+    assert_eq!(rt; system.rows.row(2), [3].as_slice());
+    assert_eq!(rt; system.rows.row(3), [-3].as_slice());
+    assert_eq!(rt; system.rows.row(4), [11].as_slice());
+    assert_eq!(rt; system.limits.items(), [9, 1, 9, 1, 0].as_slice());
     Ok(())
 }
