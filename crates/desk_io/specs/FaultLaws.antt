@@ -1,5 +1,5 @@
 -- A count of faults over several calls.
-use Rattle.std.proofs.Common.{◌≤◌, ◌-◌, ◌^◌, ℕ, arith}
+use Rattle.std.proofs.Common.{◌≤◌, ℕ, arith}
 use Rattle.desk_io.specs.Desk.{Rose}
 
 -- what rises last has risen from before on

@@ -1,5 +1,5 @@
 -- An input that is taken piece by piece, for a loop over takes.
-use Rattle.std.proofs.Common.{◌≡◌, ◌<◌, ◌≤◌, ℕ, List, [], ◌++◌, ◌∷◌, min, length, take, drop, Option, Some, arith, length-append, append_assoc, sym, ◌∙◌, ap, refl, take-append-drop}
+use Rattle.std.proofs.Common.{◌≡◌, ◌<◌, ℕ, List, [], ◌++◌, ◌∷◌, min, length, take, drop, Option, Some, arith, append_assoc, sym, ◌∙◌, ap, refl, take-append-drop}
 use Rattle.std.proofs.lemmas.List.{append-nil}
 use Rattle.std.specs.Option.{option_map, ForSome}
 use Rattle.desk_io.specs.Desk.{TakesFrom}

@@ -19,7 +19,7 @@ use Rattle.int_model.specs.declared.model.Column.{Column}
 use Rattle.int_model.specs.declared.model.Model.{Model}
 use Rattle.int_model.specs.IntegerRows.{coefficient_of, coefficients_of, rounded_bounds, integer_rows}
 use Rattle.int_model.proofs.ScaleLaws.{common_denominator_pos}
-use Rattle.int_model.specs.Large.{IsLargeColumn, IsLargeRow, objective_weight, IsLargeObjective}
+use Rattle.int_model.specs.Large.{IsLargeColumn, IsLargeRow}
 
 -- ---- common denominators
 
@@ -64,10 +64,6 @@ row_light box row h = light (weight box (integer_row row)) (λ heavy. h (inl hea
 -- a column that is not large
 pub column_light : (column : Column) → (IsLargeColumn column → ⊥) → reach (rounded_bounds column) ≤ 2 ^ 96
 column_light column h = light (reach (rounded_bounds column)) h
-
--- an objective that is not large
-pub objective_light : (model : Model) → (IsLargeObjective model → ⊥) → objective_weight model ≤ 2 ^ 96
-objective_light model h = light (objective_weight model) (λ heavy. h (inl heavy))
 
 -- a single coefficient that makes a row large
 pub large_from_factor : (k : ℕ) (d : ℤ) (box : List Bounds) (row : FractionRow) → k < length row.factors → length row.factors ≡ length box → IsHeavy (nat_abs (get_or (scaled row.factors) k d)) → IsLargeRow box row

@@ -1,11 +1,10 @@
 -- Equal names, the first place that passes a test, and the rows and values that stand at the place of a name.
-use Rattle.std.proofs.Common.{◌≡◌, ℕ, zero, suc, ◌+◌, ◌<◌, length, Bool, true, false, cond, ltb, not, List, [], ◌∷◌, map, position, Some, None, slice_get, refl, sym, ap, ap₂, subst, ◌∙◌, arith}
+use Rattle.std.proofs.Common.{◌≡◌, ℕ, zero, suc, ◌+◌, ◌<◌, length, Bool, true, false, cond, ltb, not, List, [], ◌∷◌, position, Some, None, slice_get, refl, sym, ap, ap₂, subst, ◌∙◌, arith}
 use Rattle.std.specs.Prelude.{bytes_eq, find, IfSome}
-use Rattle.std.specs.List.{position_or_len, IsDistinct, AllByRecursion}
+use Rattle.std.specs.List.{position_or_len}
 use Rattle.std.proofs.lemmas.Bool.{ltb-true}
-use Rattle.std.proofs.lemmas.Option.{cond_some, same_Some, slice_get_past}
+use Rattle.std.proofs.lemmas.Option.{cond_some, slice_get_past}
 use Rattle.std.proofs.lemmas.List.Folds.{find_at}
-use Rattle.std.proofs.lemmas.Map.Keys.{IsDistinct-head, IsDistinct-tail}
 use Rattle.std.proofs.lemmas.Slice.Eq.{bytes_eq-Decides}
 use Rattle.mps_fields.specs.FrontLaws.{place_none}
 use Rattle.mps_model.specs.declared.tables.row_kind.RowKind.{RowKind}

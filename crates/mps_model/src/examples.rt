@@ -256,11 +256,13 @@ pub fn one_meaning()
 {}
 
 /// In a text without fault each column is an integer between two bounds.
+#[tactic(auto, using(crate::proofs::OnModel::FaultlessColumnLaws::faultless_settled))]
 pub fn faultless_columns()
     ensures { (layout : Layout) (given : Option ℤ) (text : List ℕ) → fault_at layout given text ≡ None → are_settled given (tables_of layout (model_lines text)) ≡ true }
 {}
 
 /// The test of a row's side with a range is what the range of exact fractions says of a sum.
+#[tactic(auto, using(crate::proofs::OnTables::SumRangeLaws::sum_fits_decides))]
 pub fn side_test_is_the_range()
     ensures { (p q : ℚ) → Decides (sum_fits p q) (SumInRange p q) }
 {}

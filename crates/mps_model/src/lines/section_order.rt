@@ -50,6 +50,7 @@ impl Order {
     }
 
     // Whether a section came, where it may stand behind the last one.
+    #[tactic(auto, using(crate::proofs::OnLines::SectionOrderLaws::fresh, crate::proofs::OnLines::SectionOrderLaws::differ))]
     fn has(self, section: Section) -> bool
         ensures { (above : List TheSection) → KeepsOrder above self → may_come_behind (last_or None above) section ≡ true
             → result ≡ list_any (is_same section) above }

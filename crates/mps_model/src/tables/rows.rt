@@ -111,6 +111,7 @@ impl RowTable {
         self.names.find(name)
     }
 
+    #[tactic(auto, using(crate::proofs::OnTables::RowTableLaws::table_length, crate::proofs::OnTables::RowTableLaws::kind_at))]
     pub(crate) fn kind(&self, row: usize) -> RowKind
         requires { row < length self.now }
         ensures { IfSome (slice_get self.now row) (λ line. line.kind ≡ letter_of result) }
@@ -125,6 +126,7 @@ impl RowTable {
         self.objective
     }
 
+    #[tactic(auto, using(crate::proofs::OnTables::RowTableLaws::table_names, crate::proofs::OnTables::RowTableLaws::table_length))]
     pub(crate) fn len(&self) -> usize
         ensures len { result ≡ length self.now }
         ensures few { length (sided_rows self.now) ≤ 256 }
