@@ -13,9 +13,11 @@ use crate::frames::child_of;
 use crate::gap::gap_direction;
 use crate::halt::Halt;
 use crate::model::OpenModel;
+use crate::near::Task;
 use crate::place::{Node, Place, Settled};
+use crate::row_forms::row_forms;
 use crate::short::Shortener;
-use crate::work::{Task, framed_move};
+use crate::work::framed_move;
 use farkas_rows::{End, Line, Path};
 use plain_slices::plain_move;
 use presolve_map::{Presolved, presolve};
@@ -25,6 +27,9 @@ use reformulate::{Equalities, Frame, Framed};
 use sequence::{NoMemory, Sequence};
 use std::alloc::Global;
 use whole_rows::DenseRows;
+
+/// How many parts of the root are looked at for a point.
+const ROOT_LOOKS: usize = 1000;
 
 /// What presolving left of the rows.
 #[derive(Debug, Drop)]
@@ -42,6 +47,8 @@ pub struct SliceBrancher<'a> {
     root: Root<'a>,
     /// How many slices a split may have: one more than the widest column has differences.
     most: i128,
+    /// Forms that may be thin, over the work columns.
+    further: Vec<Vec<i128>>,
     ghost most_is: { most ≡ pos (widest rows.now.box + 1) },
 }
 
@@ -55,11 +62,13 @@ impl<'a> SliceBrancher<'a> {
             Presolved::Closed(line) => Root::Closed(line),
             Presolved::Open { map, rows: work } => Root::Open(OpenModel { rows, map, work }),
         };
+        let further = further_forms(alloc, &root)?;
         Ok(SliceBrancher {
             alloc,
             rows,
             root,
             most,
+            further,
         })
     }
 
@@ -88,6 +97,18 @@ impl<'a> SliceBrancher<'a> {
                 Err(Halt::GivesUp) => Ok(Place::Plain(0)),
             },
         }
+    }
+}
+
+/// Forms that may be thin at a root and below it, where they are found.
+fn further_forms(alloc: Global, root: &Root) -> Result<Vec<Vec<i128>>, NoMemory> {
+    let Root::Open(model) = root else {
+        return Ok(Vec::new(alloc));
+    };
+    match row_forms(alloc, model) {
+        Ok(forms) => Ok(forms),
+        Err(Halt::NoMemory) => Err(NoMemory),
+        Err(Halt::GivesUp) => Ok(Vec::new(alloc)),
     }
 }
 
@@ -121,6 +142,7 @@ fn open_root<'a>(alloc: Global, model: &'a OpenModel<'a>) -> Result<Place, Halt>
         forms,
         short,
         depth: 0,
+        looks: ROOT_LOOKS,
     }))
 }
 
@@ -212,8 +234,16 @@ impl SliceBrancher<'_> {
             frame: &node.frame,
             forms: &node.forms,
             short: &node.short,
+            further: &self.further,
         };
-        framed_move(self.alloc, model, task, thin, &mut node.dict)
+        framed_move(
+            self.alloc,
+            model,
+            task,
+            thin,
+            &mut node.dict,
+            &mut node.looks,
+        )
     }
 }
 

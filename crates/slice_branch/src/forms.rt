@@ -37,7 +37,11 @@ fn product<S: Space, T: Space>(
 }
 
 /// Adds the rows of a matrix with their multipliers.
-fn combine<T: Space>(sum: &mut [i128], times: &[i128], rows: &Grid<T, i128>) -> Option<()> {
+pub(crate) fn combine<T: Space>(
+    sum: &mut [i128],
+    times: &[i128],
+    rows: &Grid<T, i128>,
+) -> Option<()> {
     if times.len() != rows.rows() {
         return None;
     }

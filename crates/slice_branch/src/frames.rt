@@ -108,5 +108,6 @@ pub(crate) fn child_of(
         forms,
         short,
         depth,
+        looks: node.looks,
     })
 }

@@ -15,6 +15,14 @@ pub(crate) enum Halt {
     NoMemory,
 }
 
+/// None in the place of what leaves its range.
+pub(crate) fn passed_over<T>(found: Result<Option<T>, Halt>) -> Result<Option<T>, Halt> {
+    match found {
+        Err(Halt::GivesUp) => Ok(None),
+        found => found,
+    }
+}
+
 impl From<RangeStop> for Halt {
     fn from(stop: RangeStop) -> Halt {
         match stop {

@@ -17,6 +17,8 @@ pub struct Node {
     pub(crate) short: Shortener,
     /// How many slices lead to the node.
     pub(crate) depth: usize,
+    /// How many parts of the node may still be looked at for a point.
+    pub(crate) looks: usize,
 }
 
 /// What settles a root before it is searched.

@@ -12,7 +12,7 @@ pub(crate) struct Seen {
 }
 
 /// The value of a form at a vertex, times its denominator, where all numbers on the way fit.
-fn value_at(form: &[i128], vertex: &Vertex) -> Option<i128> {
+pub(crate) fn value_at(form: &[i128], vertex: &Vertex) -> Option<i128> {
     if form.len() == vertex.numerators.len() {
         dot_checked(form, &vertex.numerators)
     } else {
@@ -31,6 +31,11 @@ impl Seen {
     pub(crate) fn add(&mut self, vertex: Vertex) -> Result<(), Halt> {
         self.points.push(vertex)?;
         Ok(())
+    }
+
+    /// The point that was kept first.
+    pub(crate) fn first(&self) -> Option<&Vertex> {
+        self.points.first()
     }
 
     /// How many whole numbers lie between the values of a form at the points, at least, where all numbers on the way fit.

@@ -4,28 +4,18 @@ ghost use Rattle.farkas_rows.specs.Refutes.{HasForms};
 ghost use Rattle.proof_tree.specs.Moves.{widest, ClosesUnder, Improves};
 ghost use Rattle.slice_branch.specs.Framed.{IsFramedMove};
 
-use crate::check::{closes_under, improves, split_of};
+use crate::check::{closes_under, split_of};
 use crate::directions::{Thin, thin_direction};
+use crate::dive::{Look, look_through};
 use crate::halt::Halt;
 use crate::model::OpenModel;
-use crate::points::{Rounding, rounded_point, shifted, whole_values};
+use crate::near::{Task, near, whole};
+use crate::parts::{cheapest, met};
 use crate::seen::Seen;
-use farkas_rows::{End, Line, Path};
+use farkas_rows::{End, Line};
 use proof_tree::Move;
 use range_dict::{Met, RangeDict, Vertex};
-use spaces::Vect;
 use std::alloc::Global;
-use whole_rows::DenseRows;
-
-/// A node that is worked: the path to it, and the cut value of the best point that is known.
-#[derive(Clone, Copy, Drop)]
-pub(crate) struct Task<'a> {
-    pub(crate) rows: &'a DenseRows,
-    pub(crate) path: &'a Path,
-    pub(crate) best: Option<i128>,
-    /// How many slices a split may have.
-    pub(crate) most: i128,
-}
 
 /// The move that the line makes, where it passes its check.
 fn closed<'a>(task: Task<'a>, line: Line) -> Result<Move, Halt>
@@ -39,21 +29,9 @@ fn closed<'a>(task: Task<'a>, line: Line) -> Result<Move, Halt>
     }
 }
 
-/// The move of a whole point, where it passes its check.
-fn found<'a>(task: Task<'a>, values: Option<Vec<i128>>) -> Option<Move>
-    requires { HasForms (length task.rows.now.box) task.path.now }
-    ensures { IfSome result (IsFramedMove task.entry.rows.now task.entry.path.now task.entry.best) }
-{
-    let values = values?;
-    if improves(task.rows, task.best, task.path, &values) {
-        Some(Move::Point(Vect::of(values)))
-    } else {
-        None
-    }
-}
-
-/// The move of a better point next to a vertex, where one of three ways of rounding its coordinates finds it.
-fn near<'a>(
+/// The move of a vertex before any direction is sought: where it is a better point, or where there are costs and a better point is
+/// next to it.
+fn first_try<'a>(
     alloc: Global,
     model: &OpenModel,
     task: Task<'a>,
@@ -63,42 +41,11 @@ fn near<'a>(
     requires { HasForms (length task.rows.now.box) task.path.now }
     ensures { IfOk result (λ found. IfSome found (IsFramedMove task.entry.rows.now task.entry.path.now task.entry.best)) }
 {
-    let Some(values) = shifted(alloc, model, thin.frame, vertex)? else {
-        return Ok(None);
-    };
-    for rounding in [Rounding::Nearest, Rounding::Down, Rounding::Up] {
-        let point = rounded_point(alloc, model, thin, &values, vertex.denominator, rounding)?;
-        if let Some(point) = found(task, point) {
-            return Ok(Some(point));
-        }
+    if task.has_costs() {
+        near(alloc, model, task, thin, vertex)
+    } else {
+        whole(alloc, task, vertex)
     }
-    Ok(None)
-}
-
-/// Keeps a point of the node at which the costs are least, where there are costs; or the move of a better point that is there or
-/// next to it.
-fn cheapest<'a>(
-    alloc: Global,
-    model: &OpenModel,
-    task: Task<'a>,
-    thin: Thin<'_>,
-    dict: &mut RangeDict,
-    seen: &mut Seen,
-) -> Result<Option<Move>, Halt>
-    requires { HasForms (length task.rows.now.box) task.path.now }
-    ensures { IfOk result (λ found. IfSome found (IsFramedMove task.entry.rows.now task.entry.path.now task.entry.best)) }
-{
-    let cost = task.rows.cost();
-    if cost.iter().all(|factor| *factor == 0) {
-        return Ok(None);
-    }
-    let vertex = dict.least(alloc, cost)?.vertex;
-    if let Some(point) = found(task, whole_values(alloc, &vertex)?) {
-        return Ok(Some(point));
-    }
-    let point = near(alloc, model, task, thin, &vertex)?;
-    seen.add(vertex)?;
-    Ok(point)
 }
 
 /// The split along a thin direction.
@@ -109,15 +56,25 @@ fn split<'a>(
     thin: Thin<'_>,
     dict: &mut RangeDict,
     seen: &mut Seen,
+    looks: &mut usize,
 ) -> Result<Move, Halt>
     requires forms { HasForms (length task.rows.now.box) task.path.now }
     requires most { task.most ≡ pos (widest task.rows.now.box + 1) }
     requires small { widest task.rows.now.box ≤ 2 ^ 97 }
     ensures { IfOk result (IsFramedMove task.entry.rows.now task.entry.path.now task.entry.best) }
 {
-    let Some(direction) = thin_direction(alloc, model, thin, dict, seen)? else {
+    let Some(direction) = thin_direction(alloc, model, task, thin, dict, seen)? else {
         return Err(Halt::GivesUp);
     };
+    let Some(place) = seen.first() else {
+        return Err(Halt::GivesUp);
+    };
+    if direction.count > 1
+        && let Some(point) = look_through(alloc, Look { model, task, thin }, dict, place, looks)?
+    {
+        return Ok(point);
+    }
+    let direction = direction.from_vertex(alloc, place)?;
     if direction.count > 0 && task.path.items().len() >= task.rows.columns() {
         return Err(Halt::GivesUp);
     }
@@ -134,6 +91,7 @@ pub(crate) fn framed_move<'a>(
     task: Task<'a>,
     thin: Thin<'a>,
     dict: &mut Option<RangeDict>,
+    looks: &mut usize,
 ) -> Result<Move, Halt>
     requires forms { HasForms (length task.rows.now.box) task.path.now }
     requires most { task.most ≡ pos (widest task.rows.now.box + 1) }
@@ -143,20 +101,19 @@ pub(crate) fn framed_move<'a>(
     let Some(dict) = dict else {
         return Err(Halt::GivesUp);
     };
-    if let Some(value) = task.best {
-        dict.set_cut(value)?;
-    }
-    let vertex = match dict.meet(alloc)? {
+    let vertex = match met(alloc, task, dict)? {
         Met::Empty(line) => return closed(task, line),
         Met::Point(vertex) => vertex,
     };
-    if let Some(point) = found(task, whole_values(alloc, &vertex)?) {
+    let cheapest = cheapest(alloc, task.rows.cost(), dict)?;
+    let place = cheapest.as_ref().unwrap_or(&vertex);
+    if let Some(point) = first_try(alloc, model, task, thin, place)? {
         return Ok(point);
     }
     let mut seen = Seen::new(alloc);
-    seen.add(vertex)?;
-    if let Some(point) = cheapest(alloc, model, task, thin, dict, &mut seen)? {
-        return Ok(point);
+    if let Some(cheapest) = cheapest {
+        seen.add(cheapest)?;
     }
-    split(alloc, model, task, thin, dict, &mut seen)
+    seen.add(vertex)?;
+    split(alloc, model, task, thin, dict, &mut seen, looks)
 }
