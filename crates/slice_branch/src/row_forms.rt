@@ -156,6 +156,6 @@ pub(crate) fn row_forms(alloc: Global, model: &OpenModel) -> Result<Vec<Vec<i128
     let all = with_values(alloc, &equalities, &rows, columns, width)?;
     match Frame::of(alloc, width, &all)? {
         Framed::Frame(frame) => all_over_columns(alloc, frame.back(), &rows, columns),
-        Framed::NoIntegerPoint => Ok(Vec::new(alloc)),
+        Framed::NoIntegerPoint(_gap) => Ok(Vec::new(alloc)),
     }
 }
