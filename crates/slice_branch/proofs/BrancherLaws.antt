@@ -1,5 +1,5 @@
 -- What a brancher's places say of nodes.
-use Rattle.std.proofs.Common.{◌≡◌, ℕ, ◌+◌, ◌-◌, ◌*◌, ◌^◌, ◌<◌, ◌≤◌, ℤ, pos, ◌+ℤ◌, ◌≤ℤ◌, ◌<ℤ◌, Bool, false, true, IsTrue, List, [], length, refl, subst, sym, ◌∙◌, arith}
+use Rattle.std.proofs.Common.{◌≡◌, ℕ, ◌+◌, ◌-◌, ◌*◌, ◌^◌, ◌≤◌, ℤ, pos, ◌+ℤ◌, ◌≤ℤ◌, ◌<ℤ◌, false, true, List, length, refl, subst, sym, ◌∙◌, arith}
 use Rattle.std.specs.Prelude.{Option}
 use Rattle.whole_rows.specs.WholeRows.{WholeRows}
 use Rattle.farkas_rows.specs.declared.path.Slice.{Slice}
@@ -8,13 +8,14 @@ use Rattle.proof_tree.specs.declared.tree.Mark.TheVariants as marks
 use Rattle.proof_tree.specs.declared.tree.Move.{Move}
 use Rattle.proof_tree.specs.declared.tree.Move.TheVariants as moves
 use Rattle.proof_tree.specs.Trees.{IsShort, on_slice}
-use Rattle.proof_tree.specs.Moves.{widest, Branches, IsChildOf, IsMove, SplitsUnder}
+use Rattle.proof_tree.specs.Moves.{widest, Branches, IsChildOf, IsMove}
 use Rattle.plain_slices.specs.PlainMoves.{IsPlainAnswer, IsPlainMove}
 use Rattle.slice_branch.specs.declared.place.Node.{Node}
 use Rattle.slice_branch.specs.declared.place.Place.{Place}
 use Rattle.slice_branch.specs.declared.place.Place.TheVariants.{Settled, Framed, Plain}
 use Rattle.slice_branch.specs.Framed.{IsAllowed, IsFramedMove, IsMarked, IsThinMove}
-use Rattle.slice_branch.specs.Places.{height_of, is_plain_place, plain_from, IsFramedPath, IsKept, IsPathWithin, IsPlainFrom, StandsFor}
+use Rattle.slice_branch.specs.NodeFrames.{IsNodeFrame}
+use Rattle.slice_branch.specs.Places.{height_of, is_plain_place, plain_from, IsKept, IsPathWithin, IsPlainFrom, StandsFor}
 use Rattle.slice_branch.proofs.PlaceLaws.{begins_plain, below_framed, longer, lower_framed, move_of_framed, turns_lower, turns_plain, widest_is_small}
 use Rattle.slice_branch.proofs.PlaceLaws as place_laws
 use Rattle.slice_branch.proofs.PlainLaws.{below_plain, lower_plain, move_of_plain}
@@ -40,7 +41,7 @@ module _ (rows : WholeRows) (path : List Slice) (best : Option ℤ) where
   kept_stands (Settled move) (Framed node) kept here = absurd kept
   kept_stands (Settled move) (Plain depth) kept here = absurd kept
   kept_stands (Framed node) (Settled move) kept here = absurd kept
-  kept_stands (Framed node) (Framed other) kept here = (here.0, here.1 ∙ sym kept)
+  kept_stands (Framed node) (Framed other) kept here = (here.0, here.1 ∙ sym kept.0, subst (IsNodeFrame rows path) (sym kept.1) here.2)
   kept_stands (Framed node) (Plain depth) kept here = absurd kept
   kept_stands (Plain depth) (Settled move) kept here = absurd kept
   kept_stands (Plain depth) (Framed node) kept here = absurd kept
@@ -122,10 +123,10 @@ module _ (rows : WholeRows) (cut : Cut) (j : ℤ) (first : pos 0 ≤ℤ j) (last
       }
 
   -- the slices of a node with a frame, with a frame or without
-  pub framed_child : (node child : Node) → child.depth ≡ node.depth + 1 → At (Framed node) → Below (Framed node) (Framed child)
-  framed_child node child deeper b =
+  pub framed_child : (node child : Node) → child.depth ≡ node.depth + 1 → (IsNodeFrame rows path node.frame → IsNodeFrame rows (on_slice path cut.form (cut.lo +ℤ j)) child.frame) → At (Framed node) → Below (Framed node) (Framed child)
+  framed_child node child deeper sliced b =
       let thin = thin_mark rows path best cut (height_of rows (Framed node) path) b.chosen b.allowed.1 in record {
-        here = λ other framed. (below_framed rows path best cut j framed.0.within b.allowed.0 first last thin, longer rows path best cut j framed.0.within b.allowed.0 first last ∙ omega (arith, framed.1, deeper));
+        here = λ other framed. (below_framed rows path best cut j framed.0.within b.allowed.0 first last thin, longer rows path best cut j framed.0.within b.allowed.0 first last ∙ omega (arith, framed.1, deeper), sliced framed.2);
         lower = lower_framed rows path best cut j b.here.0.within b.allowed.0 first last thin;
         plain = λ h. absurd (cc h);
       }

@@ -1,3 +1,6 @@
 mod BrancherLaws
+mod ChildLaws
+mod KeptForms
 mod PlaceLaws
 mod PlainLaws
+mod ReachLaws

@@ -1,5 +1,5 @@
 -- Nodes that are split along thin directions.
-use Rattle.std.proofs.Common.{◌≡◌, ℕ, ◌+◌, ◌-◌, ◌*◌, ◌^◌, ◌<◌, ◌≤◌, ℤ, pos, negsuc, neg_ℤ, ◌+ℤ◌, ◌-ℤ◌, ◌≤ℤ◌, ◌<ℤ◌, false, true, IsTrue, List, [], ◌∷◌, length, max, refl, subst, sym, ◌∙◌, arith}
+use Rattle.std.proofs.Common.{◌≡◌, ℕ, ◌+◌, ◌-◌, ◌*◌, ◌^◌, ◌≤◌, ℤ, pos, negsuc, neg_ℤ, ◌+ℤ◌, ◌-ℤ◌, ◌≤ℤ◌, ◌<ℤ◌, false, List, [], ◌∷◌, length, refl, subst, sym, arith}
 use Rattle.std.specs.Prelude.{Option, All, nat_abs, Result, Ok, Err, IfOk, FitsSigned}
 use Rattle.std.specs.Int.{w128}
 use Rattle.std.proofs.lemmas.Int.{fits_signed_from_abs}
@@ -10,7 +10,7 @@ use Rattle.whole_rows.specs.declared.bounds.Bounds.{Bounds}
 use Rattle.whole_rows.specs.WholeRows.{WholeRows, IsWithinLimits, reach, span}
 use Rattle.farkas_rows.specs.declared.path.Slice.{Slice}
 use Rattle.proof_tree.specs.declared.tree.Cut.{Cut}
-use Rattle.proof_tree.specs.declared.tree.Mark.TheVariants.{Thin, Plain}
+use Rattle.proof_tree.specs.declared.tree.Mark.TheVariants.{Thin}
 use Rattle.proof_tree.specs.declared.tree.Move.{Move}
 use Rattle.proof_tree.specs.declared.tree.Move.TheVariants.{Close, Split, Point}
 use Rattle.proof_tree.specs.Trees.{IsOfSize, on_slice}
@@ -141,9 +141,9 @@ root_framed : (rows : WholeRows) → IsWithinLimits rows → IsFramedPath rows [
 root_framed rows limits = record { within = root_within rows limits; short = omega arith }
 
 -- the place of a root stands for it
-pub root_stands : (rows : WholeRows) (best : Option ℤ) → IsWithinLimits rows → (place : Place) → IsRootPlace place → StandsFor rows place [] best
+pub root_stands : (rows : WholeRows) (best : Option ℤ) → IsWithinLimits rows → (place : Place) → IsRootPlace rows place → StandsFor rows place [] best
 root_stands rows best limits (places.Settled move) h = (root_framed rows limits, refl)
-root_stands rows best limits (places.Framed node) h = (root_framed rows limits, sym h)
+root_stands rows best limits (places.Framed node) h = (root_framed rows limits, sym h.0, h.1)
 root_stands rows best limits (places.Plain depth) h = subst (λ d. IsPlainFrom rows d []) (sym h) (turns_plain rows [] (root_framed rows limits))
 
 -- what follows of a value follows of an answer

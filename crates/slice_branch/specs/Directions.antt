@@ -1,5 +1,5 @@
 -- Directions that pass their checks.
-use Rattle.std.specs.Prelude.{◌≡◌, ◌+◌, ◌^◌, ℤ, pos, ◌+ℤ◌, ◌≤ℤ◌, List, Option, Some}
+use Rattle.std.specs.Prelude.{◌+◌, ◌^◌, ℤ, pos, ◌+ℤ◌, ◌≤ℤ◌, List, Option, Some}
 use Rattle.whole_rows.specs.WholeRows.{WholeRows}
 use Rattle.farkas_rows.specs.declared.path.Slice.{Slice}
 use Rattle.farkas_rows.specs.Inequalities.{below, above}

@@ -1,3 +1,5 @@
 pub mod Directions
 pub mod Framed
+pub mod NodeFrames
 pub mod Places
+pub mod Roots

@@ -6,6 +6,7 @@ use Rattle.farkas_rows.specs.declared.path.Slice.{Slice}
 use Rattle.farkas_rows.specs.Refutes.{HasForms}
 use Rattle.proof_tree.specs.Trees.{IsOfSize}
 use Rattle.plain_slices.specs.Shut.{IsFixedBy}
+use Rattle.slice_branch.specs.NodeFrames.{IsNodeFrame}
 use Rattle.slice_branch.specs.declared.place.Place.{Place}
 use Rattle.slice_branch.specs.declared.place.Place.TheVariants.{Settled, Framed, Plain}
 
@@ -34,7 +35,7 @@ pub record IsFramedPath (rows : WholeRows) (path : List Slice) : Type 0 where
 -- by its kind
 abbrev pub StandsFor : WholeRows → Place → List Slice → Option ℤ → Type 0
 StandsFor rows (Settled move) path best = IsFramedPath rows path × (length path ≡ 0)
-StandsFor rows (Framed node) path best = IsFramedPath rows path × (length path ≡ node.depth)
+StandsFor rows (Framed node) path best = IsFramedPath rows path × (length path ≡ node.depth) × IsNodeFrame rows path node.frame
 StandsFor rows (Plain depth) path best = IsPlainFrom rows depth path
 
 -- how many slices may still be put on the path: as many thin ones as there are columns, and then as many of single columns
@@ -49,19 +50,19 @@ is_plain_place (Settled move) = false
 is_plain_place (Framed node) = false
 is_plain_place (Plain depth) = true
 
--- the place of a root: no slice leads to it
-abbrev pub IsRootPlace : Place → Type 0
-IsRootPlace (Settled move) = Unit {0}
-IsRootPlace (Framed node) = node.depth ≡ 0
-IsRootPlace (Plain depth) = depth ≡ 0
+-- the place of a root: no slice leads to it, and a frame is its own
+abbrev pub IsRootPlace : WholeRows → Place → Type 0
+IsRootPlace rows (Settled move) = Unit {0}
+IsRootPlace rows (Framed node) = (node.depth ≡ 0) × IsNodeFrame rows [] node.frame
+IsRootPlace rows (Plain depth) = depth ≡ 0
 
--- the place is of the same kind, and as many slices lead to it
+-- the place is of the same kind, as many slices lead to it, and it has the same frame
 abbrev pub IsKept : Place → Place → Type 0
 IsKept (Settled move) (Settled other) = Unit {0}
 IsKept (Settled move) (Framed node) = ⊥
 IsKept (Settled move) (Plain depth) = ⊥
 IsKept (Framed node) (Settled move) = ⊥
-IsKept (Framed node) (Framed other) = other.depth ≡ node.depth
+IsKept (Framed node) (Framed other) = (other.depth ≡ node.depth) × (other.frame ≡ node.frame)
 IsKept (Framed node) (Plain depth) = ⊥
 IsKept (Plain depth) (Settled move) = ⊥
 IsKept (Plain depth) (Framed node) = ⊥

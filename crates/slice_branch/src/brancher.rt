@@ -1,9 +1,13 @@
 //! The brancher of the search by reformulation.
-ghost use Rattle.std.specs.Prelude.{◌≡◌, ◌≤◌, ◌^◌, ◌+◌, ◌*◌, pos, [], length, None, IfOk, IfSome, OnOk, false};
+ghost use Rattle.std.specs.Prelude.{◌≡◌, ◌≤◌, ◌^◌, ◌+◌, ◌*◌, ◌+ℤ◌, pos, List, [], length, None, IfOk, IfSome, OnOk, false};
 ghost use Rattle.proof_tree.specs.Moves.{widest};
+ghost use Rattle.proof_tree.specs.Trees.{on_slice};
 ghost use Rattle.farkas_rows.specs.Refutes.{HasForms};
+ghost use Rattle.farkas_rows.specs.declared.path.Slice.{Slice};
 ghost use Rattle.slice_branch.specs.Framed.{IsFramedMove};
+ghost use Rattle.slice_branch.specs.NodeFrames.{IsNodeFrame};
 ghost use Rattle.slice_branch.specs.Places.{is_plain_place, plain_from, IsKept, IsRootPlace, StandsFor};
+ghost use Rattle.slice_branch.specs.Roots.{IsRootOf, IsRootOf-prop};
 
 use crate::check::{closes_under, split_of, widest_of};
 use crate::directions::Thin;
@@ -50,6 +54,7 @@ pub struct SliceBrancher<'a> {
     /// Forms that may be thin, over the work columns.
     further: Vec<Vec<i128>>,
     ghost most_is: { most ≡ pos (widest rows.now.box + 1) },
+    ghost root_is: { IsRootOf rows.now root } by { IsRootOf-prop rows.now root },
 }
 
 impl<'a> SliceBrancher<'a> {
@@ -84,7 +89,7 @@ impl<'a> SliceBrancher<'a> {
 
     /// The place of the root: the move that settles it, its frame, or its depth.
     fn root_place(&self) -> Result<Place, NoMemory>
-        ensures { IfOk result IsRootPlace }
+        ensures { IfOk result (IsRootPlace self.now.rows.now) }
     {
         match &self.root {
             Root::Closed(line) => {
@@ -123,7 +128,7 @@ fn copy_of(alloc: Global, line: &Line) -> Result<Line, NoMemory> {
 
 /// The place of a root that presolving has left open: the frame of its equalities, or the gap that they have.
 fn open_root<'a>(alloc: Global, model: &'a OpenModel<'a>) -> Result<Place, Halt>
-    ensures { IfOk result IsRootPlace }
+    ensures { IfOk result (IsRootPlace model.now.rows.now) }
 {
     let equalities = model.equalities(alloc)?;
     let frame = match Frame::of(alloc, model.work.columns(), &equalities)? {
@@ -219,6 +224,7 @@ impl SliceBrancher<'_> {
         requires forms { HasForms (length self.now.rows.now.box) path.now }
         requires small { widest self.now.rows.now.box ≤ 2 ^ 97 }
         ensures depth { node.new.depth ≡ node.old.depth }
+        ensures frame { node.new.frame ≡ node.old.frame }
         ensures found { IfOk result (IsFramedMove self.now.rows.now path.now best) }
     {
         let Root::Open(model) = &self.root else {
@@ -260,7 +266,8 @@ impl SliceBrancher<'_> {
     /// The node of slice `j` of a split, where it has a frame.
     fn thin_child(&self, node: &Node, cut: &Cut, j: i128) -> Result<Node, Halt>
         requires { node.now.depth ≤ 256 }
-        ensures { IfOk result (λ child. child.depth ≡ node.now.depth + 1) }
+        ensures depth { IfOk result (λ child. child.depth ≡ node.now.depth + 1) }
+        ensures frame { IfOk result (λ child. (path : List Slice) → IsNodeFrame self.now.rows.now path node.now.frame → IsNodeFrame self.now.rows.now (on_slice path cut.now.form (cut.now.lo +ℤ j)) child.frame) }
     {
         match &self.root {
             Root::Open(model) => child_of(self.alloc, model, node, cut, j),

@@ -1,7 +1,12 @@
 //! Frames of slices.
-ghost use Rattle.std.specs.Prelude.{◌≡◌, ◌≤◌, ◌+◌, ◌<◌, [], IfOk, IfSome, OnOk, get_or, length, pos};
+ghost use Rattle.std.specs.Prelude.{◌≡◌, ◌≤◌, ◌+◌, ◌<◌, ◌↔◌, ◌+ℤ◌, ◌-ℤ◌, List, [], IfOk, IfSome, IsTrue, OnOk, get_or, length, pos};
+ghost use Rattle.farkas_rows.specs.declared.path.Slice.{Slice};
+ghost use Rattle.proof_tree.specs.Trees.{on_slice};
+ghost use Rattle.spaces.specs.Maps.{pulled_constant, pulled_form};
 ghost use Rattle.unimodular_pair.specs.Gathering.{common_divisor, IsGatheredPair};
-ghost use Rattle.reformulate.specs.Substitutions.{dimension_of};
+ghost use Rattle.reformulate.specs.Slices.{IsSlice};
+ghost use Rattle.reformulate.specs.Substitutions.{dimension_of, IsSubstitution};
+ghost use Rattle.slice_branch.specs.NodeFrames.{IsKeptFactor, IsKeptForm, IsNodeFrame};
 
 use crate::forms::slice_forms;
 use crate::halt::Halt;
@@ -13,6 +18,7 @@ use reformulate::Frame;
 use spaces::{Form, Kernel, Work};
 use std::alloc::Global;
 use unimodular_pair::Pair;
+use whole_rows::Bounds;
 
 /// The greatest common divisor of factors; none where one of them has no size.
 pub(crate) fn divisor_of(factors: &[i128]) -> Option<i128>
@@ -26,6 +32,28 @@ pub(crate) fn divisor_of(factors: &[i128]) -> Option<i128>
         return None;
     }
     Some(gcd(*first, divisor))
+}
+
+/// Whether a factor is 0 where its column has one value.
+fn is_kept_factor(bounds: Bounds, factor: i128) -> bool
+    ensures { IsTrue result ↔ IsKeptFactor bounds factor }
+{
+    bounds.low != bounds.high || factor == 0
+}
+
+/// Whether the form has a factor for each column, which is 0 where the column has one value.
+pub(crate) fn is_kept_form(bounds: &[Bounds], form: &[i128]) -> bool
+    ensures { IsTrue result ↔ IsKeptForm bounds.now form.now }
+{
+    if bounds.len() != form.len() {
+        return false;
+    }
+    for j in 0..form.len() {
+        if !is_kept_factor(bounds[j], form[j]) {
+            return false;
+        }
+    }
+    true
 }
 
 /// The form of a split over the work columns and over the coordinates of a frame, and the value that the latter has to have.
@@ -43,7 +71,11 @@ fn turn(
     frame: &Frame,
     cut: &Cut,
     value: i128,
-) -> Result<Turned, Halt> {
+) -> Result<Turned, Halt>
+    ensures work { IfOk result (λ turned. turned.work ≡ pulled_form model.now.map cut.now.form) }
+    ensures kernel { IfOk result (λ turned. turned.kernel ≡ pulled_form frame.now.to_work (pulled_form model.now.map cut.now.form)) }
+    ensures value { IfOk result (λ turned. turned.value ≡ (value -ℤ pulled_constant model.now.map cut.now.form) -ℤ pulled_constant frame.now.to_work (pulled_form model.now.map cut.now.form)) }
+{
     if cut.form.items().len() != model.map.base().items().len() {
         return Err(Halt::GivesUp);
     }
@@ -52,13 +84,12 @@ fn turn(
         return Err(Halt::GivesUp);
     }
     let kernel = frame.to_work().pull_back(alloc, &work.form)?;
-    let rest = value
-        .checked_sub(work.constant)
-        .and_then(|rest| rest.checked_sub(kernel.constant));
+    let rest = value.checked_sub(work.constant).ok_or(Halt::GivesUp)?;
+    let value = rest.checked_sub(kernel.constant).ok_or(Halt::GivesUp)?;
     Ok(Turned {
         work: work.form,
         kernel: kernel.form,
-        value: rest.ok_or(Halt::GivesUp)?,
+        value,
     })
 }
 
@@ -67,6 +98,7 @@ fn completed(alloc: Global, frame: &Frame, form: &Form<Kernel>) -> Result<Pair, 
     ensures gathered { IfOk result (λ pair. IsGatheredPair (get_or pair.u 0 []) pair) }
     ensures some { OnOk result (0 < dimension_of frame.now) }
     ensures size { IfOk result (λ pair. length pair.u ≡ dimension_of frame.now) }
+    ensures first { IfOk result (λ pair. get_or pair.u 0 [] ≡ form.now) }
 {
     let dimension = frame.dimension();
     if dimension == 0 || form.items().len() != dimension || divisor_of(form.items()) != Some(1) {
@@ -79,6 +111,24 @@ fn completed(alloc: Global, frame: &Frame, form: &Form<Kernel>) -> Result<Pair, 
     Ok(pair)
 }
 
+/// The frame of the points at which the first row of the pair, a form over the coordinates of a frame, has the value.
+fn slice_of(alloc: Global, frame: &Frame, pair: &Pair, value: i128) -> Result<Frame, Halt>
+    requires some { 0 < dimension_of frame.now }
+    requires size { length pair.now.u ≡ dimension_of frame.now }
+    requires gathered { IsGatheredPair (get_or pair.now.u 0 []) pair.now }
+    ensures slice { IfOk result (IsSlice frame.now (get_or pair.now.u 0 []) value) }
+    ensures new { IfOk result IsSubstitution }
+    ensures old { IsSubstitution frame.now }
+{
+    // Each frame is a substitution with its way back.
+    let dimension = frame.dimension();
+    prove!(dimension > 0);
+    let slice = frame.slice(alloc, pair, value)?;
+    let fewer = slice.dimension();
+    prove!(fewer + 1 == dimension);
+    Ok(slice)
+}
+
 /// The frame and the dictionary of slice `j` of a split of a node.
 pub(crate) fn child_of(
     alloc: Global,
@@ -88,12 +138,16 @@ pub(crate) fn child_of(
     j: i128,
 ) -> Result<Node, Halt>
     requires { node.now.depth ≤ 256 }
-    ensures { IfOk result (λ child. child.depth ≡ node.now.depth + 1) }
+    ensures depth { IfOk result (λ child. child.depth ≡ node.now.depth + 1) }
+    ensures frame { IfOk result (λ child. (path : List Slice) → IsNodeFrame model.now.rows.now path node.now.frame → IsNodeFrame model.now.rows.now (on_slice path cut.now.form (cut.now.lo +ℤ j)) child.frame) }
 {
+    if !is_kept_form(model.rows.bounds(), cut.form.items()) {
+        return Err(Halt::GivesUp);
+    }
     let value = cut.lo.checked_add(j).ok_or(Halt::GivesUp)?;
     let turned = turn(alloc, model, &node.frame, cut, value)?;
     let pair = completed(alloc, &node.frame, &turned.kernel)?;
-    let frame = node.frame.slice(alloc, &pair, turned.value)?;
+    let frame = slice_of(alloc, &node.frame, &pair, turned.value)?;
     let dict = match &node.dict {
         Some(dict) => Some(dict.child(alloc, cut.form.items(), value)?),
         None => None,

@@ -1,6 +1,9 @@
 //! A model without its columns of one value and the rows that its box cannot violate.
-ghost use Rattle.std.specs.Prelude.{◌≡◌, length, All, IfOk};
+ghost use Rattle.std.specs.Prelude.{◌≡◌, ◌<◌, ◌++◌, [], length, All, IfOk, OnOk};
+ghost use Rattle.whole_rows.specs.WholeRows.{row_at};
+ghost use Rattle.farkas_lift.specs.NodeEqualities.{common_side, node_equalities, row_equality};
 ghost use Rattle.presolve_map.specs.Columns.{IsColumnMap};
+ghost use Rattle.presolve_map.specs.ReducedRows.{IsReduced};
 
 use crate::halt::Halt;
 use presolve_map::{WorkRows, lift_form};
@@ -17,6 +20,7 @@ pub(crate) struct OpenModel<'a> {
     pub(crate) map: Affine<Work, Original>,
     pub(crate) work: WorkRows,
     ghost columns: { IsColumnMap rows.now.box map },
+    ghost presolved: { IsReduced rows.now work },
 }
 
 impl OpenModel<'_> {
@@ -41,19 +45,32 @@ impl OpenModel<'_> {
 
     /// The rows with equal sides, as equalities over the work columns.
     pub(crate) fn equalities(&self, alloc: Global) -> Result<Equalities, NoMemory>
-        ensures { IfOk result (All (λ equality. length equality.form ≡ length self.now.work.rows.box)) }
+        ensures lengths { IfOk result (All (λ equality. length equality.form ≡ length self.now.work.rows.box)) }
+        ensures value { IfOk result (λ equalities. equalities ≡ node_equalities self.now.work []) }
     {
         let mut equalities = Sequence::new(alloc);
         for i in 0..self.work.rows() {
-            let low = self.work.low(i);
-            if let Some(side) = low
-                && low == self.work.high(i)
-            {
-                let form = Form::of(self.work.row(i).to_vec(alloc)?);
-                equalities.push(Equality { form, side })?;
-            }
+            self.push_equality(alloc, &mut equalities, i)?;
         }
         Ok(equalities)
+    }
+
+    /// Puts row `i` at the end, where its sides are equal.
+    fn push_equality(
+        &self,
+        alloc: Global,
+        equalities: &mut Equalities,
+        i: usize,
+    ) -> Result<(), NoMemory>
+        requires { i < length self.now.work.rows.rows }
+        ensures value { OnOk result (equalities.new ≡ equalities.old ++ row_equality (row_at self.now.work.rows i)) }
+        ensures lengths { OnOk result (All (λ equality. length equality.form ≡ length self.now.work.rows.box) (row_equality (row_at self.now.work.rows i))) }
+    {
+        if let Some(side) = common_side(self.work.low(i), self.work.high(i)) {
+            let form = Form::of(self.work.row(i).to_vec(alloc)?);
+            equalities.push(Equality { form, side })?;
+        }
+        Ok(())
     }
 
     /// The form that is the value of work column `j`.
@@ -64,6 +81,16 @@ impl OpenModel<'_> {
         };
         *factor = 1;
         self.lifted(alloc, &factors)
+    }
+}
+
+/// The value of two sides, where both are there and equal.
+fn common_side(low: Option<i128>, high: Option<i128>) -> Option<i128>
+    ensures { result ≡ common_side low high }
+{
+    match (low, high) {
+        (Some(low), Some(high)) => { if low == high { Some(low) } else { None } }
+        _ => None,
     }
 }
 

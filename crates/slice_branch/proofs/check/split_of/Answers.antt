@@ -1,4 +1,4 @@
-use Rattle.std.proofs.Common.{refl, rules, FitsSigned, to_z, of_z, ◌≡◌, arith}
+use Rattle.std.proofs.Common.{refl, rules, FitsSigned, to_z, of_z, ◌≡◌}
 use Rattle.std.specs.Int.{w128}
 use Rattle.std.proofs.lemmas.Int.{to_z-of_z}
 use Rattle.slice_branch.proofs.PlaceLaws.{direction_splits}

@@ -1,4 +1,4 @@
-use Rattle.std.proofs.Common.{◌≡◌, ◌+◌}
+use Rattle.std.proofs.Common.{◌≡◌}
 use Rattle.slice_branch.proofs.forms.root_forms.Given as goal
 
 abbrev pub invariant-loop-i : goal.invariant-loop-i

@@ -1,4 +1,4 @@
-use Rattle.std.proofs.Common.{◌≡◌, ◌+◌}
+use Rattle.std.proofs.Common.{◌≡◌}
 use Rattle.slice_branch.proofs.forms.shorten_rows.Given as goal
 
 abbrev pub invariant-loop-i : goal.invariant-loop-i
