@@ -1,26 +1,25 @@
 -- The rational vectors at which the forms of a frame's equalities are 0 are those of the frame.
-use Rattle.std.proofs.Common.{◌≡◌, ◌≢◌, ℕ, zero, suc, ◌+◌, ◌*◌, ◌<◌, ℤ, pos, ◌+ℤ◌, ◌*ℤ◌, List, [], ◌∷◌, length, get_or, map, refl, sym, ap, ap₂, subst, ◌∙◌, arith, mul-pos}
+use Rattle.std.proofs.Common.{◌≡◌, ◌≢◌, ℕ, zero, suc, ◌*◌, ◌<◌, ℤ, pos, ◌+ℤ◌, ◌*ℤ◌, List, [], ◌∷◌, length, map, refl, sym, ap, ap₂, subst, ◌∙◌, arith, mul-pos}
 use Rattle.std.specs.List.{All}
 use Rattle.std.proofs.lemmas.List.{length-map}
 use Rattle.std.proofs.lemmas.List.Elements.{All-head, All-tail, All-nil, All-cons}
 use Rattle.exact_math.specs.Ring.{integers}
-use Rattle.exact_math.specs.Rational.{ℚ, whole, frac, neg_ℚ, inv_ℚ, ◌+ℚ◌, ◌*ℚ◌}
+use Rattle.exact_math.specs.Rational.{ℚ, whole, inv_ℚ, ◌+ℚ◌, ◌*ℚ◌}
 use Rattle.exact_math.specs.RationalLaws.{den_pos, frac-self, frac-mul, same_frac, whole-frac, num_zero, pos-ne-zero}
 use Rattle.exact_math.specs.RationalRing.{rationals, whole_add, whole_mul, mul_inv}
 use Rattle.exact_math.specs.IntegerRing.{linear, expand}
 use Rattle.exact_math.specs.RingLaws as Laws
 use Rattle.exact_math.specs.RingSolver.{ring, reads}
 use Rattle.exact_vectors.specs.Vectors.{dot, add, scale, negate, zeros}
-use Rattle.exact_vectors.specs.Matrices.{HasWidth, times_vector, combination}
+use Rattle.exact_vectors.specs.Matrices.{HasWidth, times_vector}
 use Rattle.exact_vectors.specs.DotLaws as Dot
 use Rattle.exact_vectors.specs.MatrixLaws as Matrix
-use Rattle.spaces.specs.Maps.{image}
 use Rattle.spaces.specs.Tables.{rows_in}
 use Rattle.spaces.specs.TableLaws as Tables
 use Rattle.lp_dict.specs.Systems.{wholes, whole_rows}
 use Rattle.reformulate.specs.Frames.{IsFrame}
 use Rattle.reformulate.specs.Solutions.{Meets, Solves}
-use Rattle.reformulate.specs.Substitutions.{Substitution, dimension_of, columns_of, point_of, coordinates_of, IsShaped}
+use Rattle.reformulate.specs.Substitutions.{Substitution, dimension_of, columns_of, point_of, IsShaped}
 use Rattle.reformulate.specs.declared.equality.Equality.{Equality}
 use Rattle.farkas_lift.proofs.Lists as Lists
 

@@ -1,9 +1,8 @@
 -- Lists that are joined by the numbers of their parts, and items by flags.
-use Rattle.std.proofs.Common.{◌≡◌, ◌≢◌, ℕ, zero, suc, ◌+◌, ◌*◌, ◌<◌, ◌≤◌, Bool, true, false, List, [], ◌∷◌, ◌++◌, length, get_or, map, take, refl, sym, ap, ap₂, subst, ◌∙◌, arith, All, length-append, append_assoc, add-one}
+use Rattle.std.proofs.Common.{◌≡◌, ℕ, zero, suc, ◌+◌, ◌*◌, ◌<◌, ◌≤◌, Bool, true, false, List, [], ◌∷◌, ◌++◌, length, get_or, map, take, refl, sym, ap, ap₂, subst, ◌∙◌, arith, All, length-append, append_assoc, add-one}
 use Rattle.std.proofs.lemmas.List.{map-append, map_more, take_all}
-use Rattle.std.proofs.lemmas.List.Elements.{All-nil, All-cons, All-append}
+use Rattle.std.proofs.lemmas.List.Elements.{All-nil, All-append}
 use Rattle.std.proofs.Math.Seq.{take-suc}
-use Rattle.std.proofs.Math.Nat.{mul-le-mul_left}
 use Rattle.presolve_map.specs.Selections.{select, positions}
 use Rattle.farkas_lift.specs.Joined.{joined}
 
@@ -134,6 +133,3 @@ two_more a b old first second e f = f ∙ ap (λ l. l ++ b ∷ []) e ∙ append_
 pub next_image : {A B : Type 0} (f : A → B) (front : List B) (xs : List A) (i : ℕ) (x : A) (y : B) (now new : List B) → i < length xs → x ≡ get_or xs i x → now ≡ front ++ map f (take i xs) → y ≡ f x → new ≡ now ++ y ∷ [] → new ≡ front ++ map f (take (i + 1) xs)
 next_image f front xs i x y now new h is e same put =
     put ∙ ap₂ (λ l z. l ++ z ∷ []) e (same ∙ ap f is) ∙ append_assoc front (map f (take i xs)) (f (get_or xs i x) ∷ []) ∙ ap (λ l. front ++ l) (sym (map_more f xs i x h))
-
-pub last_image : {A B : Type 0} (f : A → B) (front : List B) (xs : List A) (i : ℕ) (now : List B) → length xs ≤ i → now ≡ front ++ map f (take i xs) → now ≡ front ++ map f xs
-last_image f front xs i now past e = e ∙ ap (λ l. front ++ map f l) (take_all i xs past)

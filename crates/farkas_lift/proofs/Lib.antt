@@ -14,5 +14,4 @@ pub mod NodeAgree
 pub mod NodeComes
 pub mod NodePlaces
 pub mod MultipleLaws
-pub mod UseSteps
 pub mod LiftSteps

@@ -1,12 +1,12 @@
 -- The multipliers of a node's system, from the parts of the way to them.
-use Rattle.std.proofs.Common.{◌≡◌, ℕ, ◌+◌, ◌*◌, ◌<◌, ◌≤◌, ◌^◌, true, false, ℤ, List, [], ◌∷◌, ◌++◌, length, get_or, map, take, refl, sym, ap, ap₂, subst, ◌∙◌, arith, All, ⊎_elim, length-append}
+use Rattle.std.proofs.Common.{◌≡◌, ℕ, ◌+◌, ◌*◌, true, false, ℤ, List, [], ◌∷◌, length, get_or, sym, ap, subst, ◌∙◌, All, length-append}
 use Rattle.std.specs.Prelude.{Option, Result, Ok, Err, OnOk}
 use Rattle.exact_math.specs.Rational.{ℚ}
 use Rattle.exact_vectors.specs.Matrices.{HasWidth}
 use Rattle.spaces.specs.Tables.{Table, rows_in}
 use Rattle.spaces.specs.TableLaws.{HasWidth-rows_in}
 use Rattle.whole_rows.specs.WholeRows.{WholeRows, IsWithinLimits}
-use Rattle.row_lifting.specs.Lifting.{none, lifted, LiftStays, SumsTo}
+use Rattle.row_lifting.specs.Lifting.{none, SumsTo}
 use Rattle.farkas_rows.specs.declared.fracs.FracUse.{FracUse}
 use Rattle.farkas_rows.specs.declared.path.Slice.{Slice}
 use Rattle.farkas_rows.specs.Inequalities.{Inequality}
@@ -15,9 +15,8 @@ use Rattle.presolve_map.specs.ReducedRows.{ReducedRows, IsReduced}
 use Rattle.reformulate.specs.Frames.{IsFrame}
 use Rattle.reformulate.specs.Substitutions.{Substitution, columns_of, IsShaped}
 use Rattle.farkas_lift.specs.NodeEqualities.{node_equalities}
-use Rattle.farkas_lift.specs.NodeLifting.{equality_forms, lifted_limit, node_places, rest_form, side_forms, system_form, uses_of, weighted_sides, ComesTo, HasOneEach, RestStays, WeightsStay}
+use Rattle.farkas_lift.specs.NodeLifting.{equality_forms, lifted_limit, node_places, rest_form, side_forms, system_form, uses_of, weighted_sides, ComesTo, HasOneEach}
 use Rattle.farkas_lift.specs.NodeSides.{node_sides}
-use Rattle.farkas_lift.specs.NodeSides.{IsThere}
 use Rattle.farkas_lift.specs.declared.side.NodeSide.TheVariants.{Cut}
 use Rattle.farkas_lift.proofs.NodeComes.{sides-cut, comes-to}
 use Rattle.farkas_lift.proofs.RestLaws.{rest_sums_to}

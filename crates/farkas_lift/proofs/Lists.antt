@@ -3,10 +3,9 @@ use Rattle.std.proofs.Common.{◌≡◌, ℕ, zero, suc, pos, List, [], ◌∷�
 use Rattle.exact_math.specs.Ring.{Ring}
 use Rattle.exact_math.specs.RingLaws as Laws
 use Rattle.exact_math.specs.RingSolver.{ring, reads}
-use Rattle.exact_vectors.specs.Vectors.{dot, add, scale, negate, zeros}
-use Rattle.exact_vectors.specs.Matrices.{HasWidth, times_vector, combination}
+use Rattle.exact_vectors.specs.Vectors.{add, scale, negate, zeros}
+use Rattle.exact_vectors.specs.Matrices.{times_vector}
 use Rattle.exact_vectors.specs.DotLaws as Dot
-use Rattle.exact_vectors.specs.MatrixLaws as Matrix
 
 module _ {A : Type 0} (r : Ring A) where
   o : A

@@ -2,11 +2,11 @@
 use Rattle.std.proofs.Common.{◌≡◌, ◌≢◌, ℕ, zero, suc, ◌+◌, ◌<◌, ◌≤◌, ℤ, pos, List, [], ◌∷◌, length, get_or, set, drop, refl, sym, ap, ap₂, subst, ◌∙◌, arith, add-one, drop-cons, below_more}
 use Rattle.std.specs.Prelude.{Result, Ok, Err, OnErr}
 use Rattle.std.proofs.lemmas.List.{get_or-set_same, get_or-set_other, get_or_default, ext_get_or}
-use Rattle.exact_math.specs.Rational.{ℚ, whole, neg_ℚ, ◌+ℚ◌, ◌*ℚ◌}
+use Rattle.exact_math.specs.Rational.{ℚ, whole, ◌+ℚ◌, ◌*ℚ◌}
 use Rattle.exact_math.specs.RationalLaws.{zero_from_num}
 use Rattle.exact_math.specs.RationalRing.{rationals}
 use Rattle.exact_math.specs.RingSolver.{ring, reads}
-use Rattle.exact_vectors.specs.Vectors.{add, scale, negate}
+use Rattle.exact_vectors.specs.Vectors.{scale}
 use Rattle.exact_vectors.specs.MatrixLaws as Matrix
 use Rattle.lp_dict.specs.Systems.{wholes}
 use Rattle.row_lifting.specs.Lifting.{none}
@@ -99,13 +99,6 @@ module _ (row next : List ℚ) (times : List ℚ) (forms : List (List ℤ)) (i :
   stay-less all =
       let parts = subst (MultiplesStay row (t ∷ drop (i + 1) times)) (drop_forms forms i form k is_form) (subst (λ l. MultiplesStay row l (drop i forms)) (drop_times times i t h is_t) all) in
       (parts.0, subst (λ l. MultiplesStay l (drop (i + 1) times) (drop (i + 1) forms)) (sym is) parts.1)
-
--- past the last form
-pub none_left : (row times : List ℚ) (forms : List (List ℤ)) (i : ℕ) → length times ≤ i → with_multiples row (drop i times) (drop i forms) ≡ row
-none_left row times forms i h = ap (λ l. with_multiples row l (drop i forms)) (drop_none times i h)
-
-pub none_stays : (row times : List ℚ) (forms : List (List ℤ)) (i : ℕ) → length times ≤ i → MultiplesStay row (drop i times) (drop i forms)
-none_stays row times forms i h = subst (λ l. MultiplesStay row l (drop i forms)) (sym (drop_none times i h)) tt
 
 -- the row keeps its length
 pub length-multiples : (n : ℕ) (row times : List ℚ) (forms : List (List ℤ)) → length row ≡ n → ((j : ℕ) → j < length forms → length (get_or forms j []) ≡ n) → length (with_multiples row times forms) ≡ n

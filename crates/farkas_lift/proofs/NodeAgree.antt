@@ -1,8 +1,6 @@
 -- The factors and limits of the model's inequalities are those of the node's over the work columns.
-use Rattle.std.proofs.Common.{◌≡◌, ◌≢◌, ℕ, zero, suc, ◌+◌, ◌*◌, ◌<◌, ◌≤◌, true, false, ℤ, pos, neg_ℤ, ◌+ℤ◌, ◌-ℤ◌, List, [], ◌∷◌, length, get_or, map, refl, sym, ap, ap₂, subst, ◌∙◌, arith, All}
-use Rattle.std.specs.Prelude.{Option, Some, None, IsSome, unwrap_or, option_map}
-use Rattle.std.proofs.lemmas.List.{get_or_default}
-use Rattle.std.proofs.lemmas.Bool.{cond-true}
+use Rattle.std.proofs.Common.{◌≡◌, ℕ, ◌+◌, ◌*◌, ◌<◌, ℤ, pos, neg_ℤ, ◌-ℤ◌, List, length, get_or, refl, sym, ap, ap₂, subst, ◌∙◌, arith, All}
+use Rattle.std.specs.Prelude.{Option, Some, IsSome, unwrap_or, option_map}
 use Rattle.exact_math.specs.IntegerRing.{linear}
 use Rattle.exact_math.specs.Ring.{integers}
 use Rattle.exact_math.specs.Rational.{ℚ, whole, neg_ℚ}
@@ -12,19 +10,15 @@ use Rattle.exact_vectors.specs.Vectors.{negate}
 use Rattle.whole_rows.specs.declared.bounds.Bounds.{Bounds}
 use Rattle.whole_rows.specs.WholeRows.{WholeRow, WholeRows, row_at, bounds_at, IsWithinLimits}
 use Rattle.farkas_rows.specs.declared.path.Slice.{Slice}
-use Rattle.farkas_rows.specs.Inequalities.{Inequality, at_most, at_least, unit, inequality_at}
+use Rattle.farkas_rows.specs.Inequalities.{Inequality, at_most, at_least, unit}
 use Rattle.farkas_rows.specs.NumberLaws.{number-row_upper, number-row_lower, number-bound_upper, number-bound_lower, number-slice_upper, number-slice_lower}
 use Rattle.farkas_rows.specs.Refutes.{nothing}
 use Rattle.farkas_rows.specs.Sides.{factor_of}
-use Rattle.presolve_map.specs.Columns.{is_open, open_flags, kept, removed_part}
+use Rattle.presolve_map.specs.Columns.{open_flags, removed_part}
 use Rattle.presolve_map.specs.LiftedLines.{named, factor_in, reduced_limit_in, IsOverKept}
 use Rattle.presolve_map.specs.ReducedRows.{ReducedRows, needed_flags, moved_side, reduced_row, IsReduced}
-use Rattle.reformulate.specs.declared.equality.Equality.{Equality as WorkEquality}
-use Rattle.farkas_lift.specs.NodeEqualities.{common_side, work_form, work_slice}
 use Rattle.farkas_lift.specs.NodeSides.{side_form}
 use Rattle.farkas_lift.specs.NodeSides.{inequality_of}
-use Rattle.farkas_lift.specs.declared.side.NodeSide.{NodeSide}
-use Rattle.farkas_lift.specs.declared.side.NodeSide.TheVariants.{RowAtMost, RowAtLeast, ColumnAtMost, ColumnAtLeast}
 use Rattle.farkas_lift.proofs.JoinedLaws.{joined-at, place}
 use Rattle.farkas_lift.proofs.NodeTotals.{no_slice, Agrees}
 use Rattle.farkas_lift.proofs.NodeValues as Node
@@ -43,9 +37,6 @@ module _ (model : WholeRows) (rows : ReducedRows) (path : List Slice) (end : Opt
 
   c : ℕ → ℕ
   c j = place (open_flags model.box) j
-
-  name : Option Inequality → Inequality
-  name o = unwrap_or o nothing
 
   upper-named : (i : ℕ) (h : ℤ) → i < length model.rows → (row_at model i).high ≡ Some h → named model path end (2 * i) ≡ at_most (row_at model i).factors h
   upper-named i h lt e = ap (λ (o : Option Inequality). unwrap_or o nothing) (number-row_upper model path end i lt ∙ ap (option_map (at_most (row_at model i).factors)) e)
@@ -78,9 +69,6 @@ module _ (model : WholeRows) (rows : ReducedRows) (path : List Slice) (end : Opt
   -- ---- the factors in a work column
 
   module _ (k : ℕ) (hk : k < length rows.rows.box) where
-    in_column : ℕ → ℚ
-    in_column = factor_in model path end (get_or rows.column_numbers k 0)
-
     upper-factor : (i : ℕ) → i < length rows.rows.rows → IsSome (row_at rows.rows i).high → factor_in model path end (get_or rows.column_numbers k 0) (2 * get_or rows.row_numbers i 0) ≡ whole (get_or (row_at rows.rows i).factors k (pos 0))
     upper-factor i h is =
         let found = high_there i h is in

@@ -1,6 +1,6 @@
 -- What the lifted multipliers come to.
-use Rattle.std.proofs.Common.{◌≡◌, ℕ, zero, suc, ◌+◌, ◌<◌, ◌≤◌, true, false, ℤ, pos, neg_ℤ, ◌+ℤ◌, ◌-ℤ◌, List, [], ◌∷◌, ◌++◌, length, get_or, map, take, refl, sym, ap, ap₂, subst, ◌∙◌, arith, All, append_assoc, ◌⊎◌, ⊎_elim}
-use Rattle.std.proofs.lemmas.List.{append-nil, length-map}
+use Rattle.std.proofs.Common.{◌≡◌, ℕ, zero, suc, ◌+◌, ◌<◌, ◌≤◌, true, false, ℤ, pos, neg_ℤ, ◌-ℤ◌, List, [], ◌∷◌, ◌++◌, length, get_or, map, take, refl, sym, ap, ap₂, ◌∙◌, arith, All, append_assoc, ⊎_elim}
+use Rattle.std.proofs.lemmas.List.{length-map}
 use Rattle.std.proofs.lemmas.List.Elements.{All-head, All-tail}
 use Rattle.std.specs.Prelude.{Option}
 use Rattle.exact_math.specs.Ring.{integers}
@@ -17,7 +17,6 @@ use Rattle.lp_dict.specs.Systems.{wholes, whole_rows}
 use Rattle.row_lifting.specs.Lifting.{none, SumsTo}
 use Rattle.farkas_rows.specs.declared.path.Slice.{Slice}
 use Rattle.farkas_rows.specs.Inequalities.{Inequality}
-use Rattle.presolve_map.specs.Columns.{kept}
 use Rattle.presolve_map.specs.LiftedLines.{total, factor_in, reduced_limit_in, cost_in, IsOverKept}
 use Rattle.presolve_map.specs.ReducedRows.{ReducedRows, IsReduced}
 use Rattle.reformulate.specs.Frames.{IsFrame}
@@ -25,13 +24,13 @@ use Rattle.reformulate.specs.Solutions.{Meets}
 use Rattle.reformulate.specs.Substitutions.{Substitution, columns_of, dimension_of, IsShaped}
 use Rattle.reformulate.specs.declared.equality.Equality.{Equality}
 use Rattle.farkas_lift.specs.NodeEqualities.{node_equalities}
-use Rattle.farkas_lift.specs.NodeLifting.{side_forms, weighted_sides, back_form, rest_form, uses_of, node_places, system_left, system_form, system_limit, lifted_limit, ComesTo, HasOneEach}
+use Rattle.farkas_lift.specs.NodeLifting.{side_forms, weighted_sides, back_form, rest_form, uses_of, node_places, system_form, lifted_limit, ComesTo, HasOneEach}
 use Rattle.farkas_lift.specs.NodeSides.{side_form}
 use Rattle.farkas_lift.specs.Joined.{joined}
 use Rattle.farkas_lift.specs.NodeSides.{row_sides, column_sides, node_sides, inequality_of}
 use Rattle.farkas_lift.specs.NodeSystem.{pulled}
 use Rattle.farkas_lift.specs.declared.side.NodeSide.{NodeSide}
-use Rattle.farkas_lift.specs.declared.side.NodeSide.TheVariants.{RowAtMost, RowAtLeast, ColumnAtMost, ColumnAtLeast, Cut}
+use Rattle.farkas_lift.specs.declared.side.NodeSide.TheVariants.{Cut}
 use Rattle.farkas_lift.proofs.FrameSpace.{forms_of, base_solves, dot-wholes}
 use Rattle.farkas_lift.proofs.NodeAgree.{factors-agree, limits-agree}
 use Rattle.farkas_lift.proofs.NodeTotals.{node-total}

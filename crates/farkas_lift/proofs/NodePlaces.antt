@@ -1,8 +1,7 @@
 -- The places of a node, and the inequalities that are none of its equalities.
-use Rattle.std.proofs.Common.{◌≡◌, ◌≢◌, ℕ, zero, suc, ◌+◌, ◌*◌, ◌<◌, ◌≤◌, ◌^◌, Bool, true, false, ℤ, pos, List, [], ◌∷◌, ◌++◌, length, get_or, take, refl, sym, ap, subst, ◌∙◌, arith, All, length-append}
+use Rattle.std.proofs.Common.{◌≡◌, ◌≢◌, ℕ, zero, suc, ◌+◌, ◌*◌, ◌<◌, ◌≤◌, ◌^◌, ℤ, pos, List, [], ◌∷◌, ◌++◌, length, get_or, refl, sym, ap, subst, ◌∙◌, arith, All}
 use Rattle.std.specs.Prelude.{Option, Some, None, IsSome, option_map, ⊤}
 use Rattle.std.specs.List.Sorted.{IsStrictlyIncreasing}
-use Rattle.std.proofs.lemmas.List.Elements.{All-nil, All-cons, All-append}
 use Rattle.exact_math.specs.Rational.{ℚ, whole, ◌≤ℚ◌, ◌<ℚ◌}
 use Rattle.whole_rows.specs.WholeRows.{WholeRow, WholeRows, row_at, bounds_at, IsWithinLimits}
 use Rattle.farkas_rows.specs.declared.fracs.FracUse.{FracUse}
@@ -12,16 +11,12 @@ use Rattle.presolve_map.specs.Columns.{is_open, open_flags, removed_part}
 use Rattle.presolve_map.specs.LiftedLines.{numbers_of, IsRemoved, IsWorkNumber}
 use Rattle.presolve_map.specs.ReducedRows.{ReducedRows, needed_flags, IsReduced}
 use Rattle.farkas_lift.specs.Joined.{joined}
-use Rattle.farkas_lift.specs.NodeEqualities.{common_side, equality_with, row_equality, node_equalities}
+use Rattle.farkas_lift.specs.NodeEqualities.{common_side}
 use Rattle.farkas_lift.specs.NodeLifting.{place_with, places_unless, row_places, column_places, slice_place, node_places, uses_of}
-use Rattle.farkas_lift.specs.NodeSides.{side_with, sides_unless, row_sides, column_sides, cut_side, node_sides}
-use Rattle.farkas_lift.specs.NodeSides.{IsThere}
 use Rattle.farkas_lift.specs.NodeLifting.{HasRoom}
-use Rattle.farkas_lift.specs.declared.side.NodeSide.{NodeSide}
-use Rattle.farkas_lift.specs.declared.side.NodeSide.TheVariants.{RowAtMost, RowAtLeast, ColumnAtMost, ColumnAtLeast, Cut}
 use Rattle.farkas_lift.specs.declared.place.Place.{Place}
 use Rattle.farkas_lift.specs.declared.place.Place.TheVariants.{Side, Equality}
-use Rattle.farkas_lift.proofs.JoinedLaws.{joined-All, joined-few, place, place_rises}
+use Rattle.farkas_lift.proofs.JoinedLaws.{place, place_rises}
 use Rattle.farkas_lift.proofs.NodeTotals.{places-each}
 use Rattle.farkas_lift.proofs.NodeValues as Node
 use Rattle.farkas_lift.proofs.UseLaws.{Within, Within-append, Within-joined, AtPlace, uses-each, uses-rise, rising}

@@ -1,35 +1,25 @@
 -- What the items at a node's places come to, by the inequalities over the work columns.
-use Rattle.std.proofs.Common.{◌≡◌, ◌≢◌, ℕ, zero, suc, ◌+◌, ◌*◌, ◌<◌, ◌≤◌, true, false, ℤ, pos, neg_ℤ, ◌+ℤ◌, ◌-ℤ◌, List, [], ◌∷◌, ◌++◌, length, get_or, map, refl, sym, ap, ap₂, subst, ◌∙◌, arith, All, append_assoc}
-use Rattle.std.specs.Prelude.{Option, Some, None, IsSome, unwrap_or, option_map, ⊤}
+use Rattle.std.proofs.Common.{◌≡◌, ℕ, zero, suc, ◌+◌, ◌*◌, ◌<◌, ◌≤◌, false, ℤ, pos, List, [], ◌∷◌, ◌++◌, length, get_or, map, refl, sym, ap, ap₂, ◌∙◌, arith, All}
+use Rattle.std.specs.Prelude.{Option, Some, None, IsSome}
 use Rattle.std.proofs.lemmas.List.{length-map, map-append, append-nil}
 use Rattle.std.proofs.lemmas.List.Elements.{All-nil, All-cons, All-append}
-use Rattle.exact_math.specs.IntegerRing.{linear}
-use Rattle.exact_math.specs.Ring.{integers}
-use Rattle.exact_math.specs.Rational.{ℚ, whole, neg_ℚ, ◌+ℚ◌}
+use Rattle.exact_math.specs.Rational.{ℚ, neg_ℚ, ◌+ℚ◌}
 use Rattle.exact_math.specs.RationalRing.{rationals}
-use Rattle.exact_math.specs.RingLaws as Laws
-use Rattle.exact_vectors.specs.Vectors.{dot, negate}
-use Rattle.whole_rows.specs.WholeRows.{WholeRow, WholeRows, row_at, bounds_at, IsWithinLimits}
+use Rattle.exact_vectors.specs.Vectors.{dot}
+use Rattle.whole_rows.specs.WholeRows.{WholeRow, WholeRows, row_at}
 use Rattle.farkas_rows.specs.declared.path.Slice.{Slice}
-use Rattle.farkas_rows.specs.Inequalities.{Inequality, at_most, at_least, unit, inequality_at}
-use Rattle.farkas_rows.specs.NumberLaws.{number-row_upper, number-row_lower, number-bound_upper, number-bound_lower, number-slice_upper, number-slice_lower}
-use Rattle.farkas_rows.specs.Refutes.{nothing}
-use Rattle.farkas_rows.specs.Sides.{factor_of}
-use Rattle.presolve_map.specs.Columns.{is_open, open_flags, kept, removed_part}
-use Rattle.presolve_map.specs.LiftedLines.{total, named, factor_in, reduced_limit_in, IsOverKept}
-use Rattle.presolve_map.specs.ReducedRows.{ReducedRows, needed_flags, moved_side, reduced_row, IsReduced}
+use Rattle.presolve_map.specs.LiftedLines.{total}
+use Rattle.presolve_map.specs.ReducedRows.{ReducedRows}
 use Rattle.reformulate.specs.declared.equality.Equality.{Equality as WorkEquality}
 use Rattle.farkas_lift.specs.Joined.{joined}
-use Rattle.farkas_lift.specs.NodeEqualities.{common_side, equality_with, row_equality, work_form, work_slice, node_equalities}
+use Rattle.farkas_lift.specs.NodeEqualities.{common_side, equality_with, row_equality, work_slice, node_equalities}
 use Rattle.farkas_lift.specs.NodeLifting.{place_with, places_unless, row_places, column_places, slice_place, node_places, uses_of}
-use Rattle.farkas_lift.specs.NodeSides.{side_form}
-use Rattle.farkas_lift.specs.NodeSides.{side_with, sides_unless, row_sides, column_sides, cut_side, node_sides, inequality_of}
+use Rattle.farkas_lift.specs.NodeSides.{side_with, sides_unless, row_sides, column_sides, node_sides}
 use Rattle.farkas_lift.specs.declared.side.NodeSide.{NodeSide}
 use Rattle.farkas_lift.specs.declared.side.NodeSide.TheVariants.{RowAtMost, RowAtLeast, ColumnAtMost, ColumnAtLeast}
 use Rattle.farkas_lift.specs.declared.place.Place.{Place}
 use Rattle.farkas_lift.specs.declared.place.Place.TheVariants.{Side, Equality}
-use Rattle.farkas_lift.proofs.JoinedLaws.{joined-All, joined-map, joined-same, joined-at, joined-list, place}
-use Rattle.farkas_lift.proofs.NodeValues as Node
+use Rattle.farkas_lift.proofs.JoinedLaws.{joined-All, joined-map, joined-same, joined-list}
 use Rattle.farkas_lift.proofs.UseLaws.{sides_in, equalities_in, sides_in-append, equalities_in-append, sides_in-joined, equalities_in-joined, IsTurned, uses-total}
 
 abbrev pub no_slice : Slice

@@ -1,42 +1,23 @@
 -- The inequalities of a node over its work columns are those of the model with the numbers of its places.
-use Rattle.std.proofs.Common.{◌≡◌, ◌≢◌, ℕ, zero, suc, ◌+◌, ◌*◌, ◌<◌, ◌≤◌, ◌^◌, Bool, true, false, ℤ, pos, neg_ℤ, ◌+ℤ◌, ◌-ℤ◌, ◌*ℤ◌, List, [], ◌∷◌, ◌++◌, length, get_or, set, map, refl, sym, ap, ap₂, subst, ◌∙◌, arith, All, cond}
-use Rattle.std.specs.Prelude.{Option, Some, None, IsSome, IfSome, unwrap_or, option_map, if◌then◌else◌, ⊤}
+use Rattle.std.proofs.Common.{◌≡◌, ◌≢◌, ℕ, zero, suc, ◌<◌, Bool, true, false, ℤ, pos, neg_ℤ, ◌+ℤ◌, ◌*ℤ◌, List, [], ◌∷◌, length, get_or, refl, sym, ap, ap₂, ◌∙◌, arith}
+use Rattle.std.specs.Prelude.{Option, Some, None, IsSome}
 use Rattle.std.specs.Ordering.{int_eq}
-use Rattle.std.proofs.lemmas.Bool.{cond_both, cond-true}
+use Rattle.std.proofs.lemmas.Bool.{cond_both}
 use Rattle.std.proofs.lemmas.Bool.Decides.{Decides-int_eq}
-use Rattle.std.proofs.lemmas.List.{length-map, map-append, get_or-map, get_or_default, get_or-set_same, get_or-set_other}
-use Rattle.std.proofs.lemmas.List.Elements.{All-nil, All-cons, All-append}
-use Rattle.exact_math.specs.IntegerRing.{linear}
+use Rattle.std.proofs.lemmas.List.{length-map, get_or-map, get_or-set_same, get_or-set_other}
 use Rattle.exact_math.specs.Ring.{integers}
-use Rattle.exact_math.specs.Rational.{ℚ, whole, neg_ℚ}
-use Rattle.exact_math.specs.RationalRing.{rationals}
 use Rattle.exact_math.specs.RingLaws as Laws
-use Rattle.exact_vectors.specs.Vectors.{dot, negate, zeros}
+use Rattle.exact_vectors.specs.Vectors.{negate, zeros}
 use Rattle.exact_vectors.specs.DotLaws as Dot
 use Rattle.exact_vectors.specs.MatrixLaws as Matrix
 use Rattle.whole_rows.specs.declared.bounds.Bounds.{Bounds}
 use Rattle.whole_rows.specs.WholeRows.{WholeRow, WholeRows, row_at, bounds_at, IsWithinLimits}
-use Rattle.farkas_rows.specs.declared.path.Slice.{Slice}
-use Rattle.farkas_rows.specs.Inequalities.{Inequality, at_most, at_least, unit, inequality_at}
-use Rattle.farkas_rows.specs.NumberLaws.{number-row_upper, number-row_lower, number-bound_upper, number-bound_lower, number-slice_upper, number-slice_lower}
-use Rattle.farkas_rows.specs.Refutes.{nothing}
-use Rattle.farkas_rows.specs.Sides.{factor_of}
-use Rattle.presolve_map.specs.Columns.{is_open, open_flags, kept, kept_columns, removed_value, removed_values, removed_part}
-use Rattle.presolve_map.specs.LiftedLines.{named, factor_in, reduced_limit_in, upper_bound, lower_bound, IsOverKept, IsRemoved, IsWorkNumber}
+use Rattle.farkas_rows.specs.Inequalities.{unit}
+use Rattle.presolve_map.specs.Columns.{is_open, open_flags, kept, removed_values, removed_part}
 use Rattle.presolve_map.specs.ReducedRows.{ReducedRows, needed_flags, moved_side, reduced_row, IsReduced}
 use Rattle.presolve_map.specs.Selections.{select, positions}
-use Rattle.reformulate.specs.declared.equality.Equality.{Equality as WorkEquality}
-use Rattle.farkas_lift.specs.Joined.{joined}
-use Rattle.farkas_lift.specs.NodeEqualities.{common_side, equality_with, row_equality, work_form, work_slice, node_equalities}
-use Rattle.farkas_lift.specs.NodeLifting.{place_with, places_unless, row_places, column_places, slice_place, node_places}
-use Rattle.farkas_lift.specs.NodeSides.{side_form}
-use Rattle.farkas_lift.specs.NodeSides.{side_with, sides_unless, row_sides, column_sides, node_sides, inequality_of}
-use Rattle.farkas_lift.specs.declared.side.NodeSide.{NodeSide}
-use Rattle.farkas_lift.specs.declared.side.NodeSide.TheVariants.{RowAtMost, RowAtLeast, ColumnAtMost, ColumnAtLeast, Cut}
-use Rattle.farkas_lift.specs.declared.place.Place.{Place}
-use Rattle.farkas_lift.specs.declared.place.Place.TheVariants.{Side, Equality}
-use Rattle.farkas_lift.proofs.JoinedLaws.{joined-All, joined-map, joined-same, joined-at, joined-list, place, positions-at, place_below, place_rises, place_set, select-at, select-length}
-use Rattle.farkas_lift.proofs.UseLaws.{sides_in, equalities_in, sides_in-append, equalities_in-append, sides_in-joined, equalities_in-joined, IsTurned}
+use Rattle.farkas_lift.specs.NodeEqualities.{common_side}
+use Rattle.farkas_lift.proofs.JoinedLaws.{place, positions-at, place_below, place_rises, place_set, select-at, select-length}
 
 -- whether two numbers are the same
 pub same_or_not : {P : Type 0} (i j : ℕ) → (i ≡ j → P) → (i ≢ j → P) → P
@@ -101,13 +82,6 @@ module _ (model : WholeRows) (rows : ReducedRows) (limits : IsWithinLimits model
 
   pub columns_count : length rows.rows.box ≡ length (positions 0 (open_flags model.box))
   columns_count = ap length reduced.box ∙ select-length 0 (open_flags model.box) model.box length-opens
-
-  -- the row of the model that a work row is
-  pub row_of : ℕ → ℕ
-  row_of i = place (needed_flags model.box model.rows) i
-
-  pub column_of : ℕ → ℕ
-  column_of j = place (open_flags model.box) j
 
   module _ (i : ℕ) (h : i < length rows.rows.rows) where
     inside_rows : i < length (positions 0 (needed_flags model.box model.rows))

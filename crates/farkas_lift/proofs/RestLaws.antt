@@ -1,10 +1,9 @@
 -- What the weighted sides of a node and its equalities sum up to.
-use Rattle.std.proofs.Common.{◌≡◌, ℕ, zero, suc, ◌+◌, ◌<◌, ℤ, pos, ◌+ℤ◌, ◌*ℤ◌, List, [], ◌∷◌, length, get_or, map, refl, sym, ap, ap₂, subst, ◌∙◌, arith}
+use Rattle.std.proofs.Common.{◌≡◌, ℕ, zero, suc, ◌<◌, ℤ, pos, List, [], ◌∷◌, length, get_or, map, refl, sym, ap, ap₂, subst, ◌∙◌, arith}
 use Rattle.std.proofs.lemmas.List.{ext_get_or, length-map}
 use Rattle.exact_math.specs.Ring.{Ring, integers}
-use Rattle.exact_math.specs.Rational.{ℚ, whole, neg_ℚ, ◌+ℚ◌, ◌*ℚ◌}
+use Rattle.exact_math.specs.Rational.{ℚ, whole, neg_ℚ, ◌+ℚ◌}
 use Rattle.exact_math.specs.RationalRing.{rationals, whole_add, whole_mul}
-use Rattle.exact_math.specs.RingLaws as Laws
 use Rattle.exact_math.specs.RingSolver.{ring, reads}
 use Rattle.exact_vectors.specs.Vectors.{dot, add, scale, negate, zeros}
 use Rattle.exact_vectors.specs.Matrices.{HasWidth, column, times_vector, combination}
@@ -20,7 +19,7 @@ use Rattle.reformulate.specs.declared.equality.Equality.{Equality}
 use Rattle.farkas_lift.specs.NodeLifting.{with_multiple, with_multiples, weighted, left_side, back_form, rest_form}
 use Rattle.farkas_lift.proofs.Lists as Lists
 use Rattle.farkas_lift.proofs.RowSpace.{Sums, sums_where_orthogonal}
-use Rattle.farkas_lift.proofs.FrameSpace.{forms_of, base_solves, dot-wholes, HasWidth-wholes, length-wholes, rational_kernel, times_vector-wholes}
+use Rattle.farkas_lift.proofs.FrameSpace.{forms_of, HasWidth-wholes, length-wholes, rational_kernel}
 
 -- ---- matrices
 

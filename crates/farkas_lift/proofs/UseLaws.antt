@@ -1,12 +1,11 @@
 -- The items of lifted multipliers: what they come to, and that their numbers rise.
-use Rattle.std.proofs.Common.{◌≡◌, ◌≢◌, ℕ, zero, suc, ◌+◌, ◌*◌, ◌<◌, ◌≤◌, Bool, true, false, ℤ, pos, negsuc, neg_ℤ, List, [], ◌∷◌, ◌++◌, length, get_or, map, refl, sym, ap, ap₂, subst, ◌∙◌, arith, All, append_assoc}
-use Rattle.std.specs.Prelude.{int_lt, if◌then◌else◌, ⊤}
+use Rattle.std.proofs.Common.{◌≡◌, ◌≢◌, ℕ, zero, suc, ◌+◌, ◌<◌, ◌≤◌, true, false, pos, List, [], ◌∷◌, ◌++◌, length, get_or, map, refl, sym, ap, ap₂, ◌∙◌, arith, All}
+use Rattle.std.specs.Prelude.{int_lt, ⊤}
 use Rattle.std.specs.Ordering.{int_eq}
 use Rattle.std.specs.List.Sorted.{IsStrictlyIncreasing}
 use Rattle.std.proofs.lemmas.Bool.{cond_both}
 use Rattle.std.proofs.lemmas.Bool.Decides.{Decides-int_eq, not_from_Decides}
 use Rattle.std.proofs.lemmas.Int.{ints}
-use Rattle.std.proofs.lemmas.List.{map-append}
 use Rattle.std.proofs.lemmas.List.Elements.{All-nil, All-cons, All-append, All-head, All-tail}
 use Rattle.exact_math.specs.Rational.{ℚ, whole, neg_ℚ, ◌+ℚ◌, ◌*ℚ◌, ◌≤ℚ◌, ◌<ℚ◌}
 use Rattle.exact_math.specs.RationalLaws.{zero_from_num}
@@ -177,9 +176,6 @@ pub rising : (low : ℕ) (numbers : List ℕ) → RisesFrom low numbers → IsSt
 rising low [] r = λ k h. absurd (omega arith)
 rising low (a ∷ []) r = λ k h. absurd (omega arith)
 rising low (a ∷ b ∷ numbers) r = rises-cons a b numbers (omega (arith, r.1.0)) (rising (a + 1) (b ∷ numbers) r.1)
-
-numbers-append : (xs ys : List FracUse) → numbers_of (xs ++ ys) ≡ numbers_of xs ++ numbers_of ys
-numbers-append xs ys = map-append (λ (item : FracUse). item.index) xs ys
 
 -- an item in front
 side-rises : (low number : ℕ) (times : ℚ) (rest : List FracUse) → low ≤ number → RisesFrom (number + 1) (numbers_of rest) → RisesFrom low (numbers_of (side_use number times ++ rest))

@@ -83,11 +83,7 @@ fn append_row(
 }
 
 /// Puts a place at the end, where there is a value for it.
-fn push_place(
-    places: &mut Vec<Place>,
-    place: Place,
-    value: Option<i128>,
-) -> Result<(), NoMemory>
+fn push_place(places: &mut Vec<Place>, place: Place, value: Option<i128>) -> Result<(), NoMemory>
     ensures { OnOk result (places.new.items ≡ places.old.items ++ place_with place value) }
 {
     if value.is_some() {

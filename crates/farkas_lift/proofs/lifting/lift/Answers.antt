@@ -1,4 +1,4 @@
-use Rattle.std.proofs.Common.{◌≡◌, ◌-◌, ◌≤◌, false, true, pos, List, length, get_or, take, sym, ap, ap₂, subst, ◌∙◌, arith, All}
+use Rattle.std.proofs.Common.{◌≡◌, ◌-◌, false, pos, List, length, get_or, take, sym, ap, ap₂, subst, ◌∙◌, arith, All}
 use Rattle.std.specs.List.Sorted.{IsStrictlyIncreasing}
 use Rattle.std.proofs.lemmas.List.{length-take}
 use Rattle.exact_math.specs.Rational.{ℚ, whole, ◌<ℚ◌}

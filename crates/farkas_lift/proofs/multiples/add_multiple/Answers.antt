@@ -1,6 +1,6 @@
-use Rattle.std.proofs.Common.{◌≡◌, ◌≢◌, ℕ, ◌<◌, ◌≤◌, pos, get_or, length, refl, sym, ap, ◌∙◌, rules, arith, FitsSigned, to_z-of_z}
+use Rattle.std.proofs.Common.{◌≡◌, ◌≢◌, ◌<◌, ◌≤◌, pos, get_or, length, refl, sym, ap, ◌∙◌, rules, arith, FitsSigned, to_z-of_z}
 use Rattle.std.specs.Int.{w128}
-use Rattle.exact_math.specs.Rational.{ℚ, whole, ◌+ℚ◌, ◌*ℚ◌}
+use Rattle.exact_math.specs.Rational.{whole, ◌+ℚ◌, ◌*ℚ◌}
 use Rattle.row_lifting.specs.Lifting.{none}
 use Rattle.farkas_lift.proofs.MultipleLaws.{on_err, read_at, zero_times, done-more, left-more, stays-more, done-all, entry-out}
 use Rattle.farkas_lift.proofs.multiples.add_multiple.Goals as goal

@@ -1,8 +1,8 @@
-use Rattle.std.proofs.Common.{◌≡◌, ◌<◌, ◌≤◌, [], length, get_or, drop, refl, sym, subst, ◌∙◌, ap, arith}
+use Rattle.std.proofs.Common.{◌≡◌, ◌<◌, [], length, get_or, refl, sym, ◌∙◌, arith}
 use Rattle.spaces.specs.Tables.{rows_in}
 use Rattle.spaces.specs.TableLaws.{length-rows_in, rows_in-at}
 use Rattle.farkas_lift.specs.NodeLifting.{with_multiple}
-use Rattle.farkas_lift.proofs.MultipleLaws.{on_err, value-more, stay-more, stay-less, none_left, none_stays}
+use Rattle.farkas_lift.proofs.MultipleLaws.{on_err, value-more, stay-more, stay-less}
 use Rattle.farkas_lift.proofs.multiples.add_multiples.Goals as goal
 
 pub loop-i-preserved : goal.loop-i-preserved

@@ -1,4 +1,4 @@
-use Rattle.std.proofs.Common.{◌≡◌, length, arith}
+use Rattle.std.proofs.Common.{length, arith}
 use Rattle.farkas_lift.specs.NodeLifting.{row_places}
 use Rattle.farkas_lift.proofs.JoinedLaws.{next_part, last_part}
 use Rattle.farkas_lift.proofs.place.append_rows.Goals as goal
