@@ -1,5 +1,17 @@
+pub mod Lists
+pub mod RowSpace
+pub mod FrameSpace
+pub mod RestLaws
 pub mod JoinedLaws
 pub mod SideLaws
 pub mod SideSteps
 pub mod SystemSteps
 pub mod GridSteps
+pub mod UseLaws
+pub mod NodeValues
+pub mod NodeTotals
+pub mod NodeAgree
+pub mod NodeComes
+pub mod NodePlaces
+pub mod MultipleLaws
+pub mod LiftSteps

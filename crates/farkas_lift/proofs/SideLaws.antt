@@ -1,11 +1,11 @@
 -- The inequalities of a node that are none of its equalities: that they are there, and how many.
-use Rattle.std.proofs.Common.{ℕ, ◌+◌, ◌*◌, ◌<◌, ◌≤◌, Bool, true, false, ℤ, [], ◌∷◌, ◌++◌, length, refl, arith, All, length-append}
+use Rattle.std.proofs.Common.{ℕ, ◌+◌, ◌*◌, ◌<◌, ◌≤◌, Bool, true, false, ℤ, List, [], ◌∷◌, ◌++◌, length, refl, arith, All, length-append}
 use Rattle.std.specs.Prelude.{Option, Some, None, IsSome}
 use Rattle.std.proofs.lemmas.List.Elements.{All-nil, All-cons, All-append}
 use Rattle.whole_rows.specs.WholeRows.{WholeRow, row_at}
 use Rattle.presolve_map.specs.ReducedRows.{ReducedRows}
 use Rattle.farkas_lift.specs.Joined.{joined}
-use Rattle.farkas_lift.specs.NodeEqualities.{common_side}
+use Rattle.farkas_lift.specs.NodeEqualities.{common_side, equality_with, row_equality}
 use Rattle.farkas_lift.specs.NodeSides.{side_with, sides_unless, row_sides, column_sides, cut_side, node_sides, IsThere}
 use Rattle.farkas_lift.specs.declared.side.NodeSide.{NodeSide}
 use Rattle.farkas_lift.specs.declared.side.NodeSide.TheVariants.{RowAtMost, RowAtLeast, ColumnAtMost, ColumnAtLeast, Cut}
@@ -59,3 +59,10 @@ sides-few rows has_cut =
       joined-few column_sides (length rows.rows.box) 2 (λ j. omega arith),
       cut_side-few has_cut,
     )
+
+equality_with-few : (factors : List ℤ) (o : Option ℤ) → length (equality_with factors o) ≤ 1
+equality_with-few factors None = omega arith
+equality_with-few factors (Some side) = omega arith
+
+pub row_equalities-few : (rows : ReducedRows) → length (joined (λ i. row_equality (row_at rows.rows i)) (length rows.rows.rows)) ≤ length rows.rows.rows
+row_equalities-few rows = omega (arith, joined-few (λ i. row_equality (row_at rows.rows i)) (length rows.rows.rows) 1 (λ i. equality_with-few (row_at rows.rows i).factors (common_side (row_at rows.rows i).low (row_at rows.rows i).high)))

@@ -1,5 +1,5 @@
 //! The equalities of a node over its work columns.
-ghost use Rattle.std.specs.Prelude.{◌≡◌, ◌<◌, ◌++◌, pos, length, IfOk, OnOk, slice_index_or};
+ghost use Rattle.std.specs.Prelude.{◌≡◌, ◌+◌, ◌<◌, ◌≤◌, ◌++◌, pos, length, IfOk, OnOk, slice_index_or};
 ghost use Rattle.std.specs.List.{All};
 ghost use Rattle.farkas_lift.specs.NodeEqualities.{row_equality, work_slice, node_equalities};
 ghost use Rattle.whole_rows.specs.WholeRows.{row_at};
@@ -17,6 +17,7 @@ use std::alloc::Global;
 pub fn node_equalities(alloc: Global, rows: &WorkRows, path: &Path) -> Result<Equalities, NoMemory>
     ensures value { IfOk result (λ equalities. equalities ≡ node_equalities rows.now path.now) }
     ensures dense { IfOk result (λ equalities. All (λ equality. length equality.form ≡ length rows.now.rows.box) equalities) }
+    ensures few { IfOk result (λ equalities. length equalities ≤ 256 + length path.now) }
 {
     let mut equalities = Equalities::new(alloc);
     for i in 0..rows.rows() {
