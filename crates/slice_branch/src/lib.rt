@@ -15,6 +15,7 @@ mod points;
 mod quotient;
 mod seen;
 mod short;
+mod shown;
 mod work;
 
 pub use brancher::SliceBrancher;
