@@ -15,7 +15,7 @@ use Rattle.slice_branch.specs.declared.place.Place.{Place}
 use Rattle.slice_branch.specs.declared.place.Place.TheVariants.{Settled, Framed, Plain}
 use Rattle.slice_branch.specs.Framed.{IsAllowed, IsFramedMove, IsMarked, IsThinMove}
 use Rattle.slice_branch.specs.NodeFrames.{IsNodeFrame}
-use Rattle.slice_branch.specs.Places.{height_of, is_plain_place, plain_from, IsKept, IsPathWithin, IsPlainFrom, StandsFor}
+use Rattle.slice_branch.specs.Places.{height_of, is_plain_place, plain_from, IsKept, IsPathWithin, IsPlainFrom, IsSettledBy, StandsFor}
 use Rattle.slice_branch.proofs.PlaceLaws.{begins_plain, below_framed, longer, lower_framed, move_of_framed, turns_lower, turns_plain, widest_is_small}
 use Rattle.slice_branch.proofs.PlaceLaws as place_laws
 use Rattle.slice_branch.proofs.PlainLaws.{below_plain, lower_plain, move_of_plain}
@@ -37,7 +37,7 @@ module _ (rows : WholeRows) (path : List Slice) (best : Option ℤ) where
 
   -- a place that is kept still stands for its node, at the same height
   pub kept_stands : (old new : Place) → IsKept old new → StandsFor rows old path best → StandsFor rows new path best
-  kept_stands (Settled move) (Settled other) kept here = here
+  kept_stands (Settled move) (Settled other) kept here = (here.0, here.1, subst (IsSettledBy rows) (sym kept) tt)
   kept_stands (Settled move) (Framed node) kept here = absurd kept
   kept_stands (Settled move) (Plain depth) kept here = absurd kept
   kept_stands (Framed node) (Settled move) kept here = absurd kept
@@ -97,9 +97,9 @@ module _ (rows : WholeRows) (path : List Slice) (best : Option ℤ) where
   plain_at (Plain depth) plain here move h = move_of_plain rows depth path here best move h
 
 -- the mark of a split that is chosen at a place
-thin_mark : (rows : WholeRows) (path : List Slice) (best : Option ℤ) (cut : Cut) (height : ℕ) → IsMove rows path best height false (moves.Split cut) → IsMarked rows path best cut cut.mark → IsThinMove rows path cut
+thin_mark : (rows : WholeRows) (path : List Slice) (best : Option ℤ) (cut : Cut) (height : ℕ) → IsMove rows path best height false (moves.Split cut) → IsMarked rows path best cut cut.mark → IsThinMove rows path best cut
 thin_mark rows path best cut height chosen marked = by_mark cut.mark refl marked where
-  by_mark : (mark : _) → cut.mark ≡ mark → IsMarked rows path best cut mark → IsThinMove rows path cut
+  by_mark : (mark : _) → cut.mark ≡ mark → IsMarked rows path best cut mark → IsThinMove rows path best cut
   by_mark marks.Thin is m = m
   by_mark marks.Plain is m = absurd (cc (chosen.2.0 is))
 

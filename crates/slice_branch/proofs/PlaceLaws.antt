@@ -27,7 +27,7 @@ module _ (rows : WholeRows) (path : List Slice) (best : Option ℤ) where
   -- a move along a thin direction is one of the node
   pub move_of_framed : IsFramedPath rows path → (move : Move) → IsFramedMove rows path best move → IsMove rows path best (2 * length rows.box - length path) false move
   move_of_framed framed (Close line) h = h
-  move_of_framed framed (Split cut) h = (h.0, (λ some. let d = h.1 some in omega (arith, d)), ((λ plain. absurd (cc (h.2, plain))), (λ t. absurd (cc t))))
+  move_of_framed framed (Split cut) h = (h.0, (λ some. let d = h.1.short some in omega (arith, d)), ((λ plain. absurd (cc (h.2, plain))), (λ t. absurd (cc t))))
   move_of_framed framed (Point x) h = h
 
   -- and is allowed
@@ -71,26 +71,26 @@ module _ (rows : WholeRows) (path : List Slice) (best : Option ℤ) (cut : Cut) 
   some : pos 1 ≤ℤ cut.count
   some = omega (linear, first, last)
 
-  module _ (thin : IsThinMove rows path cut) where
+  module _ (thin : IsThinMove rows path best cut) where
     -- the path of a slice along a thin direction
     pub below_framed : IsFramedPath rows (on_slice path cut.form (cut.lo +ℤ j))
-    below_framed = record { within = within_slice; short = let t = thin some in omega (arith, longer, t) }
+    below_framed = record { within = within_slice; short = let t = thin.short some in omega (arith, longer, t) }
 
     -- and the same as the first of a node that is split by single columns
     pub begins_plain : IsPlainFrom rows (length path + 1) (on_slice path cut.form (cut.lo +ℤ j))
     begins_plain = record {
       within = within_slice;
-      early = let t = thin some in omega (arith, t);
+      early = let t = thin.short some in omega (arith, t);
       behind = omega (arith, longer);
       short = omega (arith, longer);
       fixed = λ column h. absurd (omega (arith, longer, h));
     }
 
     pub lower_framed : (2 * length rows.box - length (on_slice path cut.form (cut.lo +ℤ j))) + 1 ≤ 2 * length rows.box - length path
-    lower_framed = let t = thin some in omega (arith, longer, t)
+    lower_framed = let t = thin.short some in omega (arith, longer, t)
 
     pub lower_plain : (((length path + 1) + length rows.box) - length (on_slice path cut.form (cut.lo +ℤ j))) + 1 ≤ 2 * length rows.box - length path
-    lower_plain = let t = thin some in omega (arith, longer, t)
+    lower_plain = let t = thin.short some in omega (arith, longer, t)
 
 -- a node that was split along thin directions becomes the first that is split by single columns
 pub turns_plain : (rows : WholeRows) (path : List Slice) → IsFramedPath rows path → IsPlainFrom rows (length path) path
@@ -142,7 +142,7 @@ root_framed rows limits = record { within = root_within rows limits; short = ome
 
 -- the place of a root stands for it
 pub root_stands : (rows : WholeRows) (best : Option ℤ) → IsWithinLimits rows → (place : Place) → IsRootPlace rows place → StandsFor rows place [] best
-root_stands rows best limits (places.Settled move) h = (root_framed rows limits, refl)
+root_stands rows best limits (places.Settled move) h = (root_framed rows limits, refl, h)
 root_stands rows best limits (places.Framed node) h = (root_framed rows limits, sym h.0, h.1)
 root_stands rows best limits (places.Plain depth) h = subst (λ d. IsPlainFrom rows d []) (sym h) (turns_plain rows [] (root_framed rows limits))
 

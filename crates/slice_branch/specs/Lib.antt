@@ -3,3 +3,5 @@ pub mod Framed
 pub mod NodeFrames
 pub mod Places
 pub mod Roots
+pub mod SeenPoints
+pub mod ThinMoves

@@ -1,14 +1,17 @@
 -- The nodes for which the places of the search stand.
 use Rattle.std.proofs.Common.{◌≡◌, ℕ, ◌+◌, ◌-◌, ◌*◌, ◌^◌, ◌<◌, ◌≤◌, Bool, true, false, ℤ, List, [], length, arith}
-use Rattle.std.specs.Prelude.{All, Option}
+use Rattle.std.specs.Prelude.{All, Option, Some, None}
 use Rattle.whole_rows.specs.WholeRows.{WholeRows, IsWithinLimits, span}
 use Rattle.farkas_rows.specs.declared.path.Slice.{Slice}
 use Rattle.farkas_rows.specs.Refutes.{HasForms}
 use Rattle.proof_tree.specs.Trees.{IsOfSize}
 use Rattle.plain_slices.specs.Shut.{IsFixedBy}
 use Rattle.slice_branch.specs.NodeFrames.{IsNodeFrame}
+use Rattle.slice_branch.specs.ThinMoves.{IsGapForm}
 use Rattle.slice_branch.specs.declared.place.Place.{Place}
 use Rattle.slice_branch.specs.declared.place.Place.TheVariants.{Settled, Framed, Plain}
+use Rattle.slice_branch.specs.declared.place.Settled as kinds
+use Rattle.slice_branch.specs.declared.place.Settled.TheVariants.{Closed, Gap}
 
 -- The slices of a path keep the limits: a factor for each column, a weight of at most 2 to the power 96, and a value of at most
 -- 2 to the power 98 in size.
@@ -32,9 +35,15 @@ pub record IsFramedPath (rows : WholeRows) (path : List Slice) : Type 0 where
   pub within : IsPathWithin rows path
   pub short : length path ≤ length rows.box
 
+-- the gap that a root keeps is one of its equalities
+abbrev pub IsSettledBy : WholeRows → Option kinds.Settled → Type 0
+IsSettledBy rows None = Unit {0}
+IsSettledBy rows (Some (Closed line)) = Unit {0}
+IsSettledBy rows (Some (Gap direction)) = IsGapForm rows direction.form direction.lo
+
 -- by its kind
 abbrev pub StandsFor : WholeRows → Place → List Slice → Option ℤ → Type 0
-StandsFor rows (Settled move) path best = IsFramedPath rows path × (length path ≡ 0)
+StandsFor rows (Settled move) path best = IsFramedPath rows path × (length path ≡ 0) × IsSettledBy rows move
 StandsFor rows (Framed node) path best = IsFramedPath rows path × (length path ≡ node.depth) × IsNodeFrame rows path node.frame
 StandsFor rows (Plain depth) path best = IsPlainFrom rows depth path
 
@@ -50,15 +59,15 @@ is_plain_place (Settled move) = false
 is_plain_place (Framed node) = false
 is_plain_place (Plain depth) = true
 
--- the place of a root: no slice leads to it, and a frame is its own
+-- the place of a root: no slice leads to it, and a gap or a frame is its own
 abbrev pub IsRootPlace : WholeRows → Place → Type 0
-IsRootPlace rows (Settled move) = Unit {0}
+IsRootPlace rows (Settled move) = IsSettledBy rows move
 IsRootPlace rows (Framed node) = (node.depth ≡ 0) × IsNodeFrame rows [] node.frame
 IsRootPlace rows (Plain depth) = depth ≡ 0
 
--- the place is of the same kind, as many slices lead to it, and it has the same frame
+-- the place is of the same kind, without the move that was taken; as many slices lead to it, and it has the same frame
 abbrev pub IsKept : Place → Place → Type 0
-IsKept (Settled move) (Settled other) = Unit {0}
+IsKept (Settled move) (Settled other) = other ≡ None
 IsKept (Settled move) (Framed node) = ⊥
 IsKept (Settled move) (Plain depth) = ⊥
 IsKept (Framed node) (Settled move) = ⊥

@@ -1,13 +1,14 @@
 //! The brancher of the search by reformulation.
-ghost use Rattle.std.specs.Prelude.{◌≡◌, ◌≤◌, ◌^◌, ◌+◌, ◌*◌, ◌+ℤ◌, pos, List, [], length, None, IfOk, IfSome, OnOk, false};
+ghost use Rattle.std.specs.Prelude.{◌≡◌, ◌≤◌, ◌^◌, ◌+◌, ◌*◌, ◌+ℤ◌, pos, List, [], length, Some, None, IfOk, IfSome, OnOk, false};
 ghost use Rattle.proof_tree.specs.Moves.{widest};
 ghost use Rattle.proof_tree.specs.Trees.{on_slice};
 ghost use Rattle.farkas_rows.specs.Refutes.{HasForms};
 ghost use Rattle.farkas_rows.specs.declared.path.Slice.{Slice};
 ghost use Rattle.slice_branch.specs.Framed.{IsFramedMove};
 ghost use Rattle.slice_branch.specs.NodeFrames.{IsNodeFrame};
-ghost use Rattle.slice_branch.specs.Places.{is_plain_place, plain_from, IsKept, IsRootPlace, StandsFor};
+ghost use Rattle.slice_branch.specs.Places.{is_plain_place, plain_from, IsKept, IsRootPlace, IsSettledBy, StandsFor};
 ghost use Rattle.slice_branch.specs.Roots.{IsRootOf, IsRootOf-prop};
+ghost use Rattle.slice_branch.specs.ThinMoves.{IsGapForm};
 
 use crate::check::{closes_under, split_of, widest_of};
 use crate::directions::Thin;
@@ -172,6 +173,8 @@ fn root_dict<'a>(alloc: Global, model: &'a OpenModel<'a>) -> Result<Option<Range
 impl SliceBrancher<'_> {
     /// The move that settles the root, where it passes its check.
     fn settled_move(&self, settled: Settled, path: &Path, best: Option<i128>) -> Option<Move>
+        requires root { length path.now ≡ 0 }
+        requires own { IsSettledBy self.now.rows.now (Some settled) }
         requires forms { HasForms (length self.now.rows.now.box) path.now }
         requires small { widest self.now.rows.now.box ≤ 2 ^ 97 }
         ensures { IfSome result (IsFramedMove self.now.rows.now path.now best) }
@@ -190,6 +193,8 @@ impl SliceBrancher<'_> {
 
     /// The split without a slice along a form that has no value, where it passes its checks.
     fn gap_move(&self, direction: Direction, path: &Path, best: Option<i128>) -> Option<Move>
+        requires root { length path.now ≡ 0 }
+        requires gap { IsGapForm self.now.rows.now direction.form direction.lo }
         requires forms { HasForms (length self.now.rows.now.box) path.now }
         requires small { widest self.now.rows.now.box ≤ 2 ^ 97 }
         ensures { IfSome result (IsFramedMove self.now.rows.now path.now best) }
@@ -203,6 +208,7 @@ impl SliceBrancher<'_> {
 
     /// The move of a place that is not split by single columns, where it has one. The place stays what it is.
     fn thin_move(&self, place: &mut Place, path: &Path, best: Option<i128>) -> Result<Move, Halt>
+        requires stands { StandsFor self.now.rows.now place.old path.now best }
         requires forms { HasForms (length self.now.rows.now.box) path.now }
         requires small { widest self.now.rows.now.box ≤ 2 ^ 97 }
         ensures kept { IsKept place.old place.new }
@@ -221,6 +227,7 @@ impl SliceBrancher<'_> {
 
     /// The move of a node with a frame.
     fn node_move(&self, node: &mut Node, path: &Path, best: Option<i128>) -> Result<Move, Halt>
+        requires node { IsNodeFrame self.now.rows.now path.now node.old.frame }
         requires forms { HasForms (length self.now.rows.now.box) path.now }
         requires small { widest self.now.rows.now.box ≤ 2 ^ 97 }
         ensures depth { node.new.depth ≡ node.old.depth }

@@ -116,6 +116,8 @@ pub(crate) fn split_of(
     requires small { widest rows.now.box ≤ 2 ^ 97 }
     ensures splits { IfSome result (SplitsUnder rows.now best path.now) }
     ensures mark { IfSome result (λ cut. cut.mark ≡ Thin) }
+    ensures form { IfSome result (λ cut. cut.form ≡ direction.form) }
+    ensures lo { IfSome result (λ cut. cut.lo ≡ direction.lo) }
     ensures count { IfSome result (λ cut. cut.count ≡ direction.count) }
 {
     if !is_direction(rows, best, path, most, &direction) {

@@ -1,4 +1,9 @@
 //! The split of a root whose equalities have no integer point: along the form of their gap, without a slice.
+ghost use Rattle.std.specs.Prelude.{◌≡◌, pos, [], length, IfOk};
+ghost use Rattle.farkas_lift.specs.NodeEqualities.{node_equalities};
+ghost use Rattle.reformulate.specs.Gaps.{IsGap};
+ghost use Rattle.slice_branch.specs.ThinMoves.{IsGapForm};
+
 use crate::ends::Direction;
 use crate::halt::Halt;
 use crate::model::{OpenModel, add_row};
@@ -107,16 +112,17 @@ fn turned(alloc: Global, times: &[RowTime]) -> Result<Vec<RowTime>, Halt> {
 }
 
 /// The form of the gap with no value. Below, the end with minus the times refutes, and above, the end with the times.
-pub(crate) fn gap_direction(
-    alloc: Global,
-    model: &OpenModel,
-    gap: &Gap,
-) -> Result<Direction, Halt> {
+pub(crate) fn gap_direction(alloc: Global, model: &OpenModel, gap: &Gap) -> Result<Direction, Halt>
+    requires { IsGap (length model.now.work.rows.box) (node_equalities model.now.work []) gap.now }
+    ensures gap { IfOk result (λ direction. IsGapForm model.now.rows.now direction.form direction.lo) }
+    ensures count { IfOk result (λ direction. direction.count ≡ pos 0) }
+{
+    let form = model.lifted(alloc, gap.form.items())?;
     let times = row_times(alloc, model, gap)?;
     let below = end_line(alloc, model.rows, gap.divisor, &turned(alloc, &times)?)?;
     let above = end_line(alloc, model.rows, gap.divisor, &times)?;
     Ok(Direction {
-        form: model.lifted(alloc, gap.form.items())?,
+        form,
         lo: gap.lo,
         count: 0,
         below,

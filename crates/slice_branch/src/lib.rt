@@ -21,6 +21,7 @@ mod quotient;
 mod row_forms;
 mod seen;
 mod short;
+mod shown;
 mod work;
 
 pub use brancher::SliceBrancher;

@@ -3,6 +3,7 @@ ghost use Rattle.std.specs.Prelude.{◌≡◌, ◌<◌, ◌++◌, [], length, Al
 ghost use Rattle.whole_rows.specs.WholeRows.{row_at};
 ghost use Rattle.farkas_lift.specs.NodeEqualities.{common_side, node_equalities, row_equality};
 ghost use Rattle.presolve_map.specs.Columns.{IsColumnMap};
+ghost use Rattle.presolve_map.specs.Lifted.{lifted_form};
 ghost use Rattle.presolve_map.specs.ReducedRows.{IsReduced};
 
 use crate::halt::Halt;
@@ -25,7 +26,9 @@ pub(crate) struct OpenModel<'a> {
 
 impl OpenModel<'_> {
     /// The form over all columns with these factors in the work columns.
-    pub(crate) fn lifted(&self, alloc: Global, factors: &[i128]) -> Result<Form<Original>, Halt> {
+    pub(crate) fn lifted(&self, alloc: Global, factors: &[i128]) -> Result<Form<Original>, Halt>
+        ensures { IfOk result (λ form. form ≡ lifted_form self.now.map factors.now) }
+    {
         if factors.len() != self.map.lines().width() {
             return Err(Halt::GivesUp);
         }

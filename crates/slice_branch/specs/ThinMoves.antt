@@ -1,0 +1,44 @@
+-- What shows that a split is thin: a gap of the root's equalities, or a frame of the node and points of it.
+use Rattle.std.specs.Prelude.{◌≡◌, ℤ, pos, List, [], length, Option}
+use Rattle.whole_rows.specs.WholeRows.{WholeRows}
+use Rattle.farkas_rows.specs.declared.path.Slice.{Slice}
+use Rattle.node_point.specs.RationalPoints.{IsRationalPoint}
+use Rattle.form_widths.specs.Slices.{AreSlices}
+use Rattle.proof_tree.specs.declared.tree.Cut.{Cut}
+use Rattle.reformulate.specs.Gaps.{IsGap}
+use Rattle.reformulate.specs.Substitutions.{Substitution}
+use Rattle.reformulate.specs.declared.gap.Gap.{Gap}
+use Rattle.presolve_map.specs.ReducedRows.{ReducedRows, IsReduced}
+use Rattle.farkas_lift.specs.NodeEqualities.{node_equalities, work_form}
+use Rattle.slice_branch.specs.NodeFrames.{IsKeptForm, IsNodeFrame}
+
+-- Over the columns that presolving keeps the form is that of a gap of the root's equalities: whole times of them give so many
+-- times the form as the gap's divisor says, and a side that the divisor does not divide. The next whole number above their
+-- quotient is `lo`. In the other columns the form is 0.
+pub record IsGapForm (rows : WholeRows) (form : List ℤ) (lo : ℤ) : Type 0 where
+  pub work : ReducedRows
+  pub presolved : IsReduced rows work
+  pub gap : Gap
+  pub shown : IsGap (length work.rows.box) (node_equalities work []) gap
+  pub kept : IsKeptForm rows.box form
+  pub same_form : work_form work form ≡ gap.form
+  pub same_lo : lo ≡ gap.lo
+
+-- a split of the root along such a form, without slices
+pub record IsGapSplit (rows : WholeRows) (path : List Slice) (cut : Cut) : Type 0 where
+  pub root : length path ≡ 0
+  pub none : cut.count ≡ pos 0
+  pub gap : IsGapForm rows cut.form cut.lo
+
+-- A split of a node that has a reduced frame of its equalities, along a form on the columns that presolving keeps. Its slices are
+-- exactly the whole numbers between two values that the form takes at rational points of the node.
+pub record IsAlong (rows : WholeRows) (path : List Slice) (best : Option ℤ) (cut : Cut) : Type 0 where
+  pub frame : Substitution
+  pub of_node : IsNodeFrame rows path frame
+  pub kept : IsKeptForm rows.box cut.form
+  pub slices : AreSlices (IsRationalPoint rows path best) cut.form cut.lo cut.count
+
+-- one of the two
+pub data IsThinBy (rows : WholeRows) (path : List Slice) (best : Option ℤ) (cut : Cut) : Type 0 where
+  gap : IsGapSplit rows path cut → IsThinBy rows path best cut
+  along : IsAlong rows path best cut → IsThinBy rows path best cut
