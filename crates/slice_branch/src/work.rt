@@ -85,12 +85,7 @@ fn thin_split<'a>(task: Task<'a>, direction: Direction, points: &[NodePoint]) ->
 }
 
 /// The split along a direction, where it passes its checks, from the end that is nearer to the point that was seen first.
-fn split<'a>(
-    alloc: Global,
-    task: Task<'a>,
-    direction: Direction,
-    seen: &Seen,
-) -> Result<Move, Halt>
+fn split<'a>(alloc: Global, task: Task<'a>, direction: Direction, seen: &Seen) -> Result<Move, Halt>
     requires forms { HasForms (length task.rows.now.box) task.path.now }
     requires most { task.most ≡ pos (widest task.rows.now.box + 1) }
     requires small { widest task.rows.now.box ≤ 2 ^ 97 }
