@@ -7,6 +7,7 @@ ghost use Rattle.slice_branch.specs.Framed.{IsFramedMove};
 use crate::check::{closes_under, split_of};
 use crate::directions::{Thin, thin_direction};
 use crate::dive::{Look, look_through};
+use crate::ends::Direction;
 use crate::halt::Halt;
 use crate::model::OpenModel;
 use crate::near::{Task, near, whole};
@@ -48,12 +49,34 @@ fn first_try<'a>(
     }
 }
 
-/// The split along a thin direction.
+/// The split along a direction, where it passes its checks, from the end that is nearer to a vertex.
 fn split<'a>(
+    alloc: Global,
+    task: Task<'a>,
+    direction: Direction,
+    vertex: &Vertex,
+) -> Result<Move, Halt>
+    requires forms { HasForms (length task.rows.now.box) task.path.now }
+    requires most { task.most ≡ pos (widest task.rows.now.box + 1) }
+    requires small { widest task.rows.now.box ≤ 2 ^ 97 }
+    ensures { IfOk result (IsFramedMove task.entry.rows.now task.entry.path.now task.entry.best) }
+{
+    let direction = direction.from_vertex(alloc, vertex)?;
+    if direction.count > 0 && task.path.items().len() >= task.rows.columns() {
+        return Err(Halt::GivesUp);
+    }
+    match split_of(task.rows, task.best, task.path, task.most, direction) {
+        Some(cut) => Ok(Move::Split(cut)),
+        None => Err(Halt::GivesUp),
+    }
+}
+
+/// The split along a thin direction. Where it has more than one slice, the move of a better point is looked for first.
+fn thin_split<'a>(
     alloc: Global,
     model: &OpenModel,
     task: Task<'a>,
-    thin: Thin<'_>,
+    thin: Thin<'a>,
     dict: &mut RangeDict,
     seen: &mut Seen,
     looks: &mut usize,
@@ -66,22 +89,15 @@ fn split<'a>(
     let Some(direction) = thin_direction(alloc, model, task, thin, dict, seen)? else {
         return Err(Halt::GivesUp);
     };
-    let Some(place) = seen.first() else {
+    let Some(vertex) = seen.first() else {
         return Err(Halt::GivesUp);
     };
     if direction.count > 1
-        && let Some(point) = look_through(alloc, Look { model, task, thin }, dict, place, looks)?
+        && let Some(point) = look_through(alloc, Look { model, task, thin }, dict, vertex, looks)?
     {
         return Ok(point);
     }
-    let direction = direction.from_vertex(alloc, place)?;
-    if direction.count > 0 && task.path.items().len() >= task.rows.columns() {
-        return Err(Halt::GivesUp);
-    }
-    match split_of(task.rows, task.best, task.path, task.most, direction) {
-        Some(cut) => Ok(Move::Split(cut)),
-        None => Err(Halt::GivesUp),
-    }
+    split(alloc, task, direction, vertex)
 }
 
 /// The move of a node: it is closed, or a better point is found, or it is split along a thin direction.
@@ -115,5 +131,5 @@ pub(crate) fn framed_move<'a>(
         seen.add(cheapest)?;
     }
     seen.add(vertex)?;
-    split(alloc, model, task, thin, dict, &mut seen, looks)
+    thin_split(alloc, model, task, thin, dict, &mut seen, looks)
 }
