@@ -67,16 +67,23 @@ fn solved(alloc: Global, rows: &DenseRows, nodes: u32) -> Result<Option<Vec<i128
 #[test]
 fn one_node_is_enough(rt: HostRuntime) -> Result<(), Fail> {
     let alloc = rt.alloc();
-    // 3 x + 5 y = 7, x + 2 y from 4 to 3, and coins of 10007 and 10009 that make 100140047.
+    // 3 x + 5 y = 7, x + 2 y from 4 to 3, coins of 10007 and 10009 that make 100140047, and 1001 x - 1000 y from 301 to 699, where
+    // x - y lies between 0 and 1.
     let odd = Sided {
         factors: [1, 2],
         low: Some(4),
         high: Some(3),
     };
+    let strip = Sided {
+        factors: [1001, -1000],
+        low: Some(301),
+        high: Some(699),
+    };
     for (most, row) in [
         (10, equal([3, 5], 7)),
         (10, odd),
         (20000, equal([10007, 10009], 100140047)),
+        (300, strip),
     ] {
         let rows = two_columns(alloc, most, [0, 0], &[row])?;
         assert!(rt; solved(alloc, &rows, 1)?.is_none());
