@@ -4,8 +4,8 @@ ghost use Rattle.farkas_rows.specs.Refutes.{HasForms};
 ghost use Rattle.slice_branch.specs.SeenPoints.{ArePoints, IsAtLeastAt, IsAtMostAt, ShowEnds};
 
 use crate::halt::Halt;
+use crate::near::Task;
 use crate::seen::Seen;
-use crate::work::Task;
 use exact_vectors::dot_checked;
 use node_point::NodePoint;
 use range_dict::Vertex;
