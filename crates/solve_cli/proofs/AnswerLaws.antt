@@ -104,6 +104,16 @@ takes_said given status result report faults now before after left left_now take
   untouched = λ command spelled is. same command.proof ∙ takes.untouched command spelled (before_say IsOfModel (λ h. h) (λ h. h) report status result faults now before after said is);
 }
 
+-- a status that tells no verdict wants no more than another
+pub takes_unjudged : (given : Given) (left : List ℕ → Option (List ℕ)) → TakesInput given left NoMemory → TakesInput given left WriteFault
+takes_unjudged given left takes = record {
+  no_command = takes.no_command;
+  others = takes.others;
+  model = λ command spelled reads judged. absurd judged;
+  proof = λ command spelled judged. absurd judged;
+  untouched = λ command spelled judged. absurd judged;
+}
+
 -- ---- completeness
 
 pub told_is : (left : Option (List ℕ)) (text bytes : List ℕ) → left ≡ Some bytes → IfSome left (λ l. l ≡ text) → text ≡ bytes

@@ -109,3 +109,23 @@ module _ (name : List ℕ) (before : ℕ) (now : Faults) (left : Option (List �
         (λ text c. checks_taken model text reply.status (output_of reply s.0) c) s.2),
   )
   proof_taken model (Err e) front s = tt
+
+-- where the faults are as they were, they are after any reply
+pub leaves_calm : {E : Type 0} (before now : Faults) (result : Result Stated E) → now ≡ before → IfOk result (LeavesCalm before now)
+leaves_calm before now (Ok (stated.Rows model rows)) kept = kept
+leaves_calm before now (Ok (stated.Stopped reply)) kept = λ calm. kept
+leaves_calm before now (Err e) kept = tt
+
+pub stays_calm : {E : Type 0} (before now : Faults) (result : Result Reply E) → now ≡ before → IfOk result (StaysCalm before now)
+stays_calm before now (Ok reply) kept = λ calm. kept
+stays_calm before now (Err e) kept = tt
+
+-- what holds at all holds of each answer
+pub on_any : {A E : Type 0} (P : A → Type 0) (Q : Type 0) (result : Result A E) → Q → IfOk result (λ answer. P answer → Q)
+on_any P Q (Ok answer) q = λ p. q
+on_any P Q (Err e) q = tt
+
+-- a reply that tells a fault of reading tells nothing of the bytes
+pub on_none : {E : Type 0} (P : Status → Type 0) (Q : Type 0) (result : Result Reply E) → (P ReadFault → ⊥) → IfOk result (λ reply. reply.status ≡ ReadFault) → IfOk result (λ reply. P reply.status → Q)
+on_none P Q (Ok reply) never is = λ p. absurd (never (subst P is p))
+on_none P Q (Err e) never is = tt

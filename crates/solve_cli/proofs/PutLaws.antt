@@ -25,6 +25,20 @@ pub appended_nothing : (before : Option (List ℕ)) → before ≡ option_map (a
 appended_nothing None = refl
 appended_nothing (Some bytes) = ap (λ (b : List ℕ). Some b) (sym (append-nil bytes))
 
+-- nothing was put, and all is well
+pub put_nothing : (name : List ℕ) (told : Told) → IsPut name [] (Ok tt) told told
+put_nothing name told = record {
+  ok = appended_nothing (told.written name);
+  err = tt;
+  others = λ other apart. refl;
+  inputs = λ other. refl;
+  said = refl;
+  later = omega arith;
+  rose = λ failed. absurd cc;
+  place = λ failed. absurd cc;
+  kept = λ kept. refl;
+}
+
 module _ (name first second : List ℕ) (old between new : Told) where
   -- a piece, and then another
   pub put_then : (result : Result (Unit {0}) DeskStop) → IsPut name first (Ok tt) old between → IsPut name second result between new → IsPut name (first ++ second) result old new
@@ -63,6 +77,20 @@ put_stopped name first second old new e one = record {
   rose = one.rose;
   place = one.place;
   kept = one.kept;
+}
+
+-- memory ran out before anything was put
+pub put_none : (name bytes : List ℕ) (told : Told) → IsPut name bytes (Err stops.NoMemory) told told
+put_none name bytes told = record {
+  ok = tt;
+  err = appends_none bytes (told.written name) (told.written name) refl;
+  others = λ other apart. refl;
+  inputs = λ other. refl;
+  said = refl;
+  later = omega arith;
+  rose = λ failed. absurd cc;
+  place = λ failed. absurd cc;
+  kept = λ kept. refl;
 }
 
 -- ---- lines

@@ -394,6 +394,12 @@ pub replied_by : {E : Type 0} (Holds : Status → Output → Type 0) (status : S
     → IfOk result (λ reply. reply.status ≡ status) → IfOk result (λ reply. reply.report.items ≡ report_of lines) → IfOk result (λ reply. reply.proof ≡ Nothing) → IfOk result (Replies Holds)
 replied_by Holds status lines result holds is_status is_report is_proof = replied_with Holds status lines Nothing result holds is_status is_report is_proof
 
+-- what follows from a fact follows in a reply
+pub replied_on : {E : Type 0} (Holds Follows : Status → Output → Type 0) (result : Result Reply E) → ((status : Status) (out : Output) → Holds status out → Follows status out)
+    → IfOk result (Replies Holds) → IfOk result (Replies Follows)
+replied_on Holds Follows (Ok reply) step holds = (holds.0, holds.1, step reply.status (output_of reply holds.0) holds.2)
+replied_on Holds Follows (Err e) step holds = tt
+
 -- ---- faults
 
 -- what fails in takes twice fails in takes
