@@ -84,7 +84,7 @@ fn thin_split<'a>(task: Task<'a>, direction: Direction, points: &[NodePoint]) ->
     split_of(task.rows, task.best, task.path, task.most, direction)
 }
 
-/// The split along a direction, where it passes its checks, from the end that is nearer to the point that was seen first.
+/// The split along a direction, where it passes its checks.
 fn split<'a>(alloc: Global, task: Task<'a>, direction: Direction, seen: &Seen) -> Result<Move, Halt>
     requires forms { HasForms (length task.rows.now.box) task.path.now }
     requires most { task.most ≡ pos (widest task.rows.now.box + 1) }
@@ -92,7 +92,6 @@ fn split<'a>(alloc: Global, task: Task<'a>, direction: Direction, seen: &Seen) -
     requires node { (frame : Substitution) × IsNodeFrame task.rows.now task.path.now frame }
     ensures { IfOk result (IsFramedMove task.entry.rows.now task.entry.path.now task.entry.best) }
 {
-    let direction = direction.from_vertex(alloc, seen.first().ok_or(Halt::GivesUp)?)?;
     let points = believed(alloc, task, seen)?;
     match thin_split(task, direction, &points) {
         Some(cut) => Ok(Move::Split(cut)),
@@ -100,7 +99,8 @@ fn split<'a>(alloc: Global, task: Task<'a>, direction: Direction, seen: &Seen) -
     }
 }
 
-/// The split along a thin direction. Where it has more than one slice, the move of a better point is looked for first.
+/// The split along a thin direction, from the end that is nearer to the point that was seen first. Where it has more than one
+/// slice, the move of a better point is looked for before.
 fn split_or_point<'a>(
     alloc: Global,
     model: &OpenModel,
@@ -127,6 +127,7 @@ fn split_or_point<'a>(
     {
         return Ok(point);
     }
+    let direction = direction.from_vertex(alloc, vertex)?;
     split(alloc, task, direction, seen)
 }
 
