@@ -14,6 +14,3 @@ pub use lifting::lift;
 pub use place::Place;
 pub use side::{NodeSide, common_side};
 pub use system::kernel_system;
-
-#[cfg(test)]
-mod tests;
