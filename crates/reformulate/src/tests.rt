@@ -15,6 +15,14 @@ fn equality(alloc: Global, a: i128, b: i128, side: i128) -> Result<Equality, NoM
     Ok(Equality { form, side })
 }
 
+// a x = side
+fn multiple(alloc: Global, a: i128, side: i128) -> Result<Equality, NoMemory>
+    ensures { IfOk result (λ equality. length equality.form ≡ 1) }
+{
+    let form = Form::of(vec![in alloc; a]?);
+    Ok(Equality { form, side })
+}
+
 #[test]
 fn two_coins(rt: HostRuntime) -> Result<(), Fail> {
     let mut equalities = Equalities::new(rt.alloc());
@@ -56,10 +64,8 @@ fn parity_pair(rt: HostRuntime) -> Result<(), Fail> {
 #[test]
 fn a_contradiction_is_raised(rt: HostRuntime) -> Result<(), Fail> {
     let mut equalities = Equalities::new(rt.alloc());
-    for (factor, side) in [(3, 3), (2, 1)] {
-        let form = Form::of(vec![in rt.alloc(); factor]?);
-        equalities.push(Equality { form, side })?;
-    }
+    equalities.push(multiple(rt.alloc(), 3, 3)?)?;
+    equalities.push(multiple(rt.alloc(), 2, 1)?)?;
     match Frame::of(rt.alloc(), 1, &equalities) {
         Ok(Framed::NoIntegerPoint(gap)) => {
             assert_eq!(rt; gap.times.items(), [6, -3].as_slice());
