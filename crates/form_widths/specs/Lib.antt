@@ -17,5 +17,6 @@ pub mod PulledLaws
 pub mod MeanLaws
 pub mod FixedPointLaws
 pub mod MeanOverLaws
+pub mod Directions
 pub mod EndTimesLaws
 pub mod PrimitiveLaws
