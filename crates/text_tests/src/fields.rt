@@ -1,5 +1,5 @@
 //! Worked values, by hand.
-use super::*;
+use mps_fields::{NumberFault, TextLine, fields_fixed, fields_free, lines, number};
 
 fn terms(text: &[u8]) -> Result<(i128, i128), NumberFault> {
     let q = number(text)?;

@@ -4,8 +4,8 @@ ghost use Rattle.whole_rows.specs.WholeRows.{span};
 ghost use Rattle.farkas_rows.specs.Refutes.{HasForms};
 ghost use Rattle.proof_tree.specs.Trees.{IsShort, IsOfSize};
 
-use crate::plain_move;
 use farkas_rows::{CutUse, Line, Path, Slice};
+use plain_slices::plain_move;
 use proof_tree::{Mark, Move};
 use spaces::Form;
 use std::alloc::Global;

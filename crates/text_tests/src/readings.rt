@@ -1,6 +1,6 @@
 //! A model that is read in both layouts, and a fault. What small texts mean is worked in `examples`.
-use super::*;
 use int_model::{Items, Model};
+use mps_model::{FaultKind, Layout, ReadStop, TextFault, read};
 use std::alloc::Global;
 use std::process::Abort;
 use std::test::Fail;

@@ -1,7 +1,7 @@
 //! Canonical texts byte for byte, texts that are read again, and models that are not plain.
-use super::*;
 use int_model::Model;
 use mps_model::{Layout, read};
+use mps_write::{is_plain, market, write};
 use std::alloc::Global;
 use std::process::Abort;
 use std::test::Fail;

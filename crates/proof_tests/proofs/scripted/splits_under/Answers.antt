@@ -1,9 +1,14 @@
-use Rattle.std.proofs.Common.{◌≡◌, ◌+◌, ◌^◌, pos, ◌+ℤ◌, ◌≤ℤ◌, refl, arith, rules, FitsSigned, to_z, of_z}
+use Rattle.std.proofs.Common.{◌≡◌, ◌+◌, ◌^◌, ℤ, pos, ◌+ℤ◌, ◌≤ℤ◌, refl, arith, rules, FitsSigned, to_z, of_z}
 use Rattle.std.specs.Int.{w128}
-use Rattle.std.proofs.lemmas.Int.{ints, to_z-of_z}
+use Rattle.std.proofs.lemmas.Int.{ints, to_z-of_z, fits_signed_from_abs}
+use Rattle.exact_math.specs.IntegerRing.{linear}
+use Rattle.proof_tree.specs.Trees.{IsOfSize}
 use Rattle.proof_tree.specs.Moves.{widest}
-use Rattle.proof_tree.proofs.Values.{sum_fits}
-use Rattle.proof_tree.proofs.scripted.splits_under.Goals as goal
+use Rattle.proof_tests.proofs.scripted.splits_under.Goals as goal
+
+-- the value behind the last slice of a split
+sum_fits : (lo count : ℤ) → IsOfSize (2 ^ 97) lo → pos 0 ≤ℤ count → count ≤ℤ pos (2 ^ 98) → FitsSigned w128 (lo +ℤ count)
+sum_fits lo count size low high = fits_signed_from_abs w128 (lo +ℤ count) (omega linear)
 
 pub returns-then-closes_under : goal.returns-then-closes_under
 returns-then-closes_under c =

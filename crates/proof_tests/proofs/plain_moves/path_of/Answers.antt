@@ -8,7 +8,7 @@ use Rattle.whole_rows.specs.WholeRows.{span}
 use Rattle.farkas_rows.specs.declared.path.Slice.{Slice}
 use Rattle.farkas_rows.specs.Refutes.{HasForms}
 use Rattle.proof_tree.specs.Trees.{IsOfSize}
-use Rattle.plain_slices.proofs.tests.path_of.Goals as goal
+use Rattle.proof_tests.proofs.plain_moves.path_of.Goals as goal
 
 pub loop-form-preserved : goal.loop-form-preserved
 loop-form-preserved c =

@@ -1,15 +1,14 @@
-//! A brancher for tests: it answers the moves of a list, one after another, and none that would break its contract.
-ghost use Rattle.std.specs.Prelude.{◌≡◌, ◌*◌, ◌-◌, ◌≤◌, Some, false, length, IfSome, IsTrue};
+//! A brancher that answers the moves of a list, one after another, and none that would break its contract.
+ghost use Rattle.std.specs.Prelude.{◌≡◌, ◌*◌, ◌-◌, ◌^◌, ◌≤◌, Some, false, length, IfSome, IsTrue};
 ghost use Rattle.farkas_rows.specs.Ends.{inequality_of};
 ghost use Rattle.farkas_rows.specs.Refutes.{HasForms, IsDense};
+ghost use Rattle.proof_tree.specs.Trees.{IsOfSize, IsSplitForm};
 ghost use Rattle.proof_tree.specs.Moves.{IsMove, ClosesUnder, SplitsUnder};
 
-use crate::brancher::Brancher;
-use crate::judge::{is_split_form, is_value};
-use crate::tree::{Cut, Mark, Move};
 use farkas_rows::{CutUse, End, Line, Path, refutes};
+use proof_tree::{Brancher, Cut, Mark, Move};
 use sequence::NoMemory;
-use whole_rows::DenseRows;
+use whole_rows::{DenseRows, span_of};
 
 /// The moves that are left stand in reverse order.
 #[derive(Drop)]
@@ -113,4 +112,20 @@ fn is_cut_under(best: Option<i128>, cut: &Option<CutUse>) -> bool
         (Some(best), Some(cut)) => best == cut.value,
         (None, Some(_)) => false,
     }
+}
+
+/// Whether the number may be the first value of a split.
+fn is_value(number: i128) -> bool
+    ensures { IsTrue result → IsOfSize (2 ^ 97) number }
+{
+    -(1 << 97) <= number && number <= 1 << 97
+}
+
+/// Whether the form is one of a split.
+fn is_split_form(rows: &DenseRows, form: &[i128]) -> bool
+    ensures { IsTrue result → IsSplitForm rows.now form.now }
+{
+    form.len() == rows.columns()
+        && form.iter().any(|factor| *factor != 0)
+        && span_of(form, rows.bounds()).is_some()
 }

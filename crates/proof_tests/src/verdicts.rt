@@ -1,18 +1,10 @@
 //! Proof texts with their verdicts, by hand.
-use super::*;
+use crate::small_rows::two_constraints;
 use proof_text::Claim;
 use std::alloc::Global;
 use std::test::Fail;
+use tree_checker::{Reject, RejectKind, Verdict, check};
 use whole_rows::{Bounds, DenseRows};
-
-/// At most 12 = 3x + 2y and at most 6 = x + 2y, the costs -5 and -4, x and y from 0 to 10.
-fn two_constraints(alloc: Global) -> Result<DenseRows, Fail> {
-    let mut rows = DenseRows::new(alloc, [Bounds { low: 0, high: 10 }; 2].to_vec(alloc)?)?;
-    rows.push_row(&[3, 2], None, Some(12))?;
-    rows.push_row(&[1, 2], None, Some(6))?;
-    rows.set_cost(&[-5, -4])?;
-    Ok(rows)
-}
 
 /// 3x + 5y = 8, x and y from 0 to 10.
 fn two_coins(alloc: Global) -> Result<DenseRows, Fail> {

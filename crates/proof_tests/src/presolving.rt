@@ -1,8 +1,9 @@
 //! Small roots, with what is left of them found by hand.
-use crate::{Presolved, WorkTimes, lift_line, presolve};
 use farkas_rows::OriginalTimes;
 use frac128::Frac;
+use presolve_map::{Presolved, WorkTimes, lift_form, lift_line, presolve};
 use sequence::NoMemory;
+use spaces::Form;
 use std::alloc::Global;
 use std::test::Fail;
 use whole_rows::{Bounds, DenseRows};
@@ -36,6 +37,10 @@ fn a_fixed_column_leaves(rt: HostRuntime) -> Result<(), Fail> {
     assert_eq!(rt; work.original_row(0), 0);
     assert_eq!(rt; work.cost_constant(), 2);
     assert_eq!(rt; map.base().items(), [1, 0].as_slice());
+    let form = Form::of(vec![in rt.alloc(); 4]?);
+    assert_eq!(rt; form.items().len(), map.lines().width());
+    let lifted = lift_form(rt.alloc(), &map, &form)?;
+    assert_eq!(rt; lifted.items(), [0, 4].as_slice());
     Ok(())
 }
 

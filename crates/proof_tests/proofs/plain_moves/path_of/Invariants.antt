@@ -3,7 +3,7 @@ use Rattle.whole_rows.specs.WholeRows.{span}
 use Rattle.farkas_rows.specs.declared.path.Slice.{Slice}
 use Rattle.farkas_rows.specs.Refutes.{HasForms}
 use Rattle.proof_tree.specs.Trees.{IsShort, IsOfSize}
-use Rattle.plain_slices.proofs.tests.path_of.Given as goal
+use Rattle.proof_tests.proofs.plain_moves.path_of.Given as goal
 
 abbrev pub invariant-loop-form : goal.invariant-loop-form
 invariant-loop-form l = record {
