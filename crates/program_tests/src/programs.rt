@@ -1,31 +1,19 @@
 //! Small systems, with answers found by hand.
 use crate::systems::{form_of, system_of};
 use frac128::Frac;
-use lp_solve::{LpStop, Solved, Weights, minimise};
+use lp_solve::{Ended, Solved, minimise, minimise_with_pivots};
 use std::test::Fail;
-
-// The multipliers that show that there is no point.
-fn multipliers_of_empty(answer: Result<Solved, LpStop>) -> Option<Weights> {
-    match answer {
-        Ok(Solved::Empty { multipliers }) => Some(multipliers),
-        Ok(
-            Solved::Least {
-                point: _point,
-                value: _value,
-                multipliers: _multipliers,
-            },
-        ) => None,
-        Err(_stop) => None,
-    }
-}
 
 #[test]
 fn contrary_rows_have_no_point(rt: HostRuntime) -> Result<(), Fail> {
     // x <= 0 and -x <= -1
     let system = system_of(rt.alloc(), 1, &[1, -1], &[0, -1])?;
     let form = form_of(rt.alloc(), &[1])?;
-    let answer = minimise(rt.alloc(), &system, &form);
-    let multipliers = multipliers_of_empty(answer).ok_or("an answer other than Empty")?;
+    let Ended { solved, pivots } = minimise_with_pivots(rt.alloc(), &system, &form)?;
+    let Solved::Empty { multipliers } = solved else {
+        return Err("an answer other than Empty".into());
+    };
+    assert_eq!(rt; pivots.items().len(), 1);
     assert_eq!(rt; multipliers.items().len(), 2);
     assert_eq!(rt; multipliers.items()[0], multipliers.items()[1]);
     assert!(rt; multipliers.items()[0].num() > 0);
