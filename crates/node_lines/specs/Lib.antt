@@ -1,0 +1,3 @@
+pub mod NodeSystems
+pub mod NodeLines
+pub mod Combinations
