@@ -25,7 +25,7 @@ use Rattle.farkas_rows.specs.NumberLaws.{number-end}
 use Rattle.farkas_rows.specs.Refutes.{nothing}
 use Rattle.farkas_rows.specs.Sides.{factor_of}
 use Rattle.presolve_map.specs.Columns.{is_open, open_flags, removed_part}
-use Rattle.presolve_map.specs.LiftedLines.{total, cost_in, factor_in, limit_in, numbers_of, ComesToSame, IsRemoved}
+use Rattle.presolve_map.specs.LiftedLines.{total, cost_in, factor_in, limit_in, numbers_of, reduced_limit_in, ComesToSame, IsRemoved}
 use Rattle.presolve_map.specs.ReducedRows.{ReducedRows, IsReduced}
 use Rattle.presolve_map.specs.Selections.{positions}
 use Rattle.farkas_lift.specs.NodeLifting.{ComesTo}
@@ -56,8 +56,8 @@ comes-over model work path end value cut items lifted form limit limits reduced 
       ap (λ z. cut *ℚ cost_in model (get_or work.column_numbers k 0) +ℚ z) (same.kept (get_or work.column_numbers k 0) inside opens) ∙ comes.in_columns k h;
   at_limit =
       ap (λ z. cut *ℚ whole (value -ℤ pos 1) +ℚ z) same.limit
-      ∙ spread cut (whole (value -ℤ pos 1)) (whole (removed_part model.box model.cost)) _
-      ∙ ap (λ z. cut *ℚ z +ℚ _) (sym (whole_less (value -ℤ pos 1) (removed_part model.box model.cost)) ∙ ap (λ p. whole ((value -ℤ pos 1) -ℤ p)) (sym reduced.cost_constant))
+      ∙ spread cut (whole (value -ℤ pos 1)) (whole (removed_part model.box model.cost)) (total (reduced_limit_in model path end) items)
+      ∙ ap (λ z. cut *ℚ z +ℚ total (reduced_limit_in model path end) items) (sym (whole_less (value -ℤ pos 1) (removed_part model.box model.cost)) ∙ ap (λ p. whole ((value -ℤ pos 1) -ℤ p)) (sym reduced.cost_constant))
       ∙ comes.at_limit;
 }
 
@@ -125,7 +125,7 @@ module _ (model : WholeRows) (path : List Slice) where
 
   one_above : whole (pos 0) <ℚ whole (pos 1)
   unfolding whole
-  one_above = pos_from_num (whole (pos 1)) (omega ints)
+  one_above = pos_from_num (whole (pos 1)) (omega (arith, ints))
 
   end-above : (end : Option Inequality) → All (λ (item : FracUse). whole (pos 0) <ℚ item.times) (end_uses model path end)
   end-above None = All-nil (λ (item : FracUse). whole (pos 0) <ℚ item.times)
