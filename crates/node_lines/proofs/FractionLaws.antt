@@ -2,6 +2,8 @@
 use Rattle.std.proofs.Common.{◌≡◌, ℕ, zero, suc, ◌+◌, ◌^◌, ◌<◌, ◌≤◌, List, [], ◌∷◌, ◌++◌, length, get_or, map, ℤ, pos, neg_ℤ, ◌+ℤ◌, ◌*ℤ◌, ◌≤ℤ◌, ◌<ℤ◌, refl, sym, ap, ap₂, ◌∙◌, subst, arith}
 use Rattle.std.specs.Prelude.{Option, Some, None, IsSome, IfSome, All, option_map, option_to_list, unwrap_or}
 use Rattle.std.specs.List.{AllZip}
+use Rattle.std.specs.Ordering.{int_eq}
+use Rattle.std.proofs.lemmas.Bool.{cond_both}
 use Rattle.std.specs.List.Sorted.{IsStrictlyIncreasing}
 use Rattle.exact_math.specs.Ring.{integers}
 use Rattle.exact_math.specs.RingLaws as Laws
@@ -29,7 +31,9 @@ use Rattle.farkas_rows.proofs.LeastLemmas.{whole_num}
 use Rattle.farkas_rows.proofs.LeastLineLemmas.{multiple_positive, least_positive, least_there}
 use Rattle.farkas_rows.proofs.LineLemmas.{ComesToNegative-of, length-multipliers, multipliers_within}
 use Rattle.presolve_map.specs.LiftedLines.{total, named, numbers_of}
+use Rattle.proof_tree.specs.Moves.{ClosesUnder}
 use Rattle.node_lines.specs.Combinations.{cut_share, IsRefutation}
+use Rattle.node_lines.specs.NodeLines.{cut_part}
 
 -- ---- what a line's inequalities come to is a multiple
 
@@ -103,7 +107,7 @@ some-combined model path end (Some cut) items refuted e = cc
 -- ---- the line
 
 -- The line with the least whole multipliers that are a multiple of multipliers which show that the node is empty refutes it, where it is not too heavy.
-pub refutes-of : (model : WholeRows) (path : List Slice) (end : Option Inequality) (cut : Option CutFrac) (items : List FracUse) (line : Line) → IsWithinLimits model → HasForms (length model.box) path → IfSome end (IsDense (length model.box)) → IsRefutation model path end cut items → IsLeastLine cut items line → line_weight model path end line ≤ℤ pos (2 ^ 126) → Refutes model path end line
+refutes-of : (model : WholeRows) (path : List Slice) (end : Option Inequality) (cut : Option CutFrac) (items : List FracUse) (line : Line) → IsWithinLimits model → HasForms (length model.box) path → IfSome end (IsDense (length model.box)) → IsRefutation model path end cut items → IsLeastLine cut items line → line_weight model path end line ≤ℤ pos (2 ^ 126) → Refutes model path end line
 refutes-of model path end cut items line limits forms dense_end refuted least light =
     let n : ℕ = length model.box in
     let times : List ℤ = multipliers line in
@@ -137,8 +141,20 @@ refutes-of model path end cut items line limits forms dense_end refuted least li
         zero-of (suc n) (suc k) d h = zero-of n k d (omega arith)
 
 -- a cut in it has the value of the combination's
-pub cut-of : (P : ℤ → Type 0) (cut : Option CutFrac) (used_cut : Option CutUse) → option_map (λ (cut : CutUse). cut.value) used_cut ≡ option_map (λ (cut : CutFrac). cut.value) cut → IfSome cut (λ (cut : CutFrac). P cut.value) → IfSome used_cut (λ (cut : CutUse). P cut.value)
+cut-of : (P : ℤ → Type 0) (cut : Option CutFrac) (used_cut : Option CutUse) → option_map (λ (cut : CutUse). cut.value) used_cut ≡ option_map (λ (cut : CutFrac). cut.value) cut → IfSome cut (λ (cut : CutFrac). P cut.value) → IfSome used_cut (λ (cut : CutUse). P cut.value)
 cut-of P None None e h = tt
 cut-of P None (Some used_cut) e h = absurd (cc)
 cut-of P (Some cut) None e h = tt
 cut-of P (Some cut) (Some used_cut) e h = let same : used_cut.value ≡ cut.value = cc in subst P (sym same) h
+
+-- in the search under a best value
+pub closes-of : (model : WholeRows) (path : List Slice) (end : Option Inequality) (best : Option ℤ) (times : ℚ) (items : List FracUse) (line : Line) → IsWithinLimits model → HasForms (length model.box) path → IfSome end (IsDense (length model.box)) → IsRefutation model path end (cut_part best times) items → IsLeastLine (cut_part best times) items line
+    → line_weight model path end line ≤ℤ pos (2 ^ 126) → ClosesUnder model best path end line
+closes-of model path end best times items line limits forms dense_end refuted least light = record {
+  refutes = refutes-of model path end (cut_part best times) items line limits forms dense_end refuted least light;
+  cut = cut-of (λ value. best ≡ Some value) (cut_part best times) line.cut least.same_cut (of_best best times);
+}
+  where
+    of_best : (best : Option ℤ) (times : ℚ) → IfSome (cut_part best times) (λ (cut : CutFrac). best ≡ Some cut.value)
+    of_best None times = tt
+    of_best (Some value) times = cond_both (int_eq times.num (pos 0)) None (Some (record { value = value; times = times })) (λ (o : Option CutFrac). IfSome o (λ (cut : CutFrac). Some value ≡ Some cut.value)) (λ e. tt) (λ e. refl)

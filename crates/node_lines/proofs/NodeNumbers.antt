@@ -7,20 +7,23 @@ use Rattle.std.proofs.Math.Seq.{get_or-append_seam}
 use Rattle.std.proofs.lemmas.Bool.{cases_lt, cond_both}
 use Rattle.std.proofs.lemmas.List.{length-append}
 use Rattle.std.proofs.lemmas.List.Elements.{All-nil, All-cons, All-append, All-get_or}
-use Rattle.exact_math.specs.Rational.{ℚ, whole, neg_ℚ, ◌≤ℚ◌}
+use Rattle.std.proofs.lemmas.List.Sorted.{All-permutation}
+use Rattle.exact_math.specs.Rational.{ℚ, whole, neg_ℚ, ◌≤ℚ◌, ◌<ℚ◌}
 use Rattle.whole_rows.specs.WholeRows.{WholeRows, IsWithinLimits, bounds_at}
 use Rattle.farkas_rows.specs.declared.fracs.FracUse.{FracUse}
 use Rattle.farkas_rows.specs.declared.path.Slice.{Slice}
 use Rattle.farkas_rows.specs.Inequalities.{Inequality, inequality_at}
 use Rattle.farkas_rows.specs.NumberLaws.{number-row_upper, number-row_lower, number-bound_upper, number-bound_lower, number-slice_upper, number-slice_lower}
 use Rattle.presolve_map.specs.Columns.{is_open}
-use Rattle.presolve_map.specs.LiftedLines.{balance, balances, bound_of, column_sum, lower_bound, upper_bound}
+use Rattle.presolve_map.specs.LiftedLines.{balance, balances, bound_of, column_sum, lower_bound, upper_bound, IsLiftedLine, IsWorkNumber}
 use Rattle.presolve_map.specs.ReducedRows.{ReducedRows, IsReduced}
 use Rattle.farkas_lift.specs.NodeLifting.{node_places, uses_of}
 use Rattle.farkas_lift.specs.declared.place.Place.{Place}
 use Rattle.farkas_lift.specs.declared.place.Place.TheVariants.{Side, Equality}
 use Rattle.farkas_lift.proofs.NodePlaces.{places-within}
 use Rattle.farkas_lift.proofs.UseLaws.{uses-each, AtPlace, Within}
+use Rattle.node_lines.specs.Combinations.{AreOfNode}
+use Rattle.node_lines.specs.NodeLines.{end_number}
 
 -- ---- those of the items of a node
 
@@ -120,3 +123,22 @@ rising-last xs n rising below k h =
     let value : get_or (xs ++ n ∷ []) (k + 1) 0 ≡ n = ap (λ (j : ℕ). get_or (xs ++ n ∷ []) j 0) at_end ∙ get_or-append_seam xs n [] 0 in
     rw (get_or-append xs (n ∷ []) 0 k (omega arith), value) (All-get_or (λ x. x < n) xs k 0 (omega arith) below))
     (cases_lt (k + 1) (length xs))
+
+-- ---- the items with the bounds of removed columns
+
+pub are-of-node : (model : WholeRows) (work : ReducedRows) (path : List Slice) (weights times : List ℚ) (cut : ℚ) (items lifted : List FracUse) → IsWithinLimits model → IsReduced model work → All (λ w. whole (pos 0) ≤ℚ w) weights
+    → items ≡ uses_of (node_places model work (length path)) weights times → All (λ (item : FracUse). IsWorkNumber model item.index) items → All (λ (item : FracUse). whole (pos 0) <ℚ item.times) lifted → IsLiftedLine model cut items lifted → AreOfNode model path lifted
+are-of-node model work path weights times cut items lifted limits reduced nonneg is_items of_work positive line =
+    let N : ℕ = 2 * (length model.rows + length model.box + length path) in
+    let P = λ (number : ℕ). (number < 2 * (length model.rows + length model.box + length path)) × (number < 2 * length model.rows → IsSome (inequality_at model [] None number)) in
+    let below : All (λ (item : FracUse). item.index < 2 * (length model.rows + length model.box + length path)) items = subst (All (λ (item : FracUse). item.index < N)) (sym is_items) (uses-below model work (length path) weights times limits reduced nonneg) in
+    let all : All (λ (item : FracUse). P item.index) lifted =
+    All-permutation (λ (item : FracUse). P item.index) (items ++ balances model cut items (length model.box)) lifted line.same
+    (All-append (λ (item : FracUse). P item.index) items (balances model cut items (length model.box)) (λ k d lt. (below k d lt, (of_work k d lt).there))
+    (balance_numbers P model cut items (length model.box) (λ k lt. ((omega arith, λ row. absurd (omega arith)), (omega arith, λ row. absurd (omega arith)))))) in
+    record {
+      rising = line.rising;
+      before_end = λ k d lt. (all k d lt).0;
+      there = λ end k d lt. let one = all k d lt in named-there model path end (get_or lifted k d).index one.0 one.1;
+      positive = positive;
+    }

@@ -153,8 +153,8 @@ pub refuted-with : (model : WholeRows) (work : ReducedRows) (path : List Slice) 
 refuted-with model work path end cut times items form limit limits reduced no_cut nonneg of_node over removed left right =
     let rest : List FracUse = end_uses model path end in
     let together = λ (part : Inequality → ℤ) (value : ℕ → ℚ).
-        ap₂ (λ a b. a +ℚ b) (cut_share-is model part cut times no_cut) (total-append value items (end_uses model path end))
-        ∙ sym (rationals.add_assoc (times *ℚ whole (part (cut_inequality model (cut_of cut)))) (total value items) (total value (end_uses model path end))) in
+    ap₂ (λ a b. a +ℚ b) (cut_share-is model part cut times no_cut) (total-append value items (end_uses model path end))
+    ∙ sym (rationals.add_assoc (times *ℚ whole (part (cut_inequality model (cut_of cut)))) (total value items) (total value (end_uses model path end))) in
     record {
       rising = numbers-with model path end items of_node.rising of_node.before_end;
       there = All-append (λ (item : FracUse). IsSome (inequality_at model path end item.index)) items (end_uses model path end) (of_node.there end) (end-there model path end);

@@ -1,6 +1,6 @@
 -- Multipliers of a node's system that show it to be empty, or an end of a form to be past it, refute it as multipliers of the model's inequalities.
 use Rattle.std.proofs.Common.{◌≡◌, ℕ, zero, suc, ◌+◌, ◌<◌, ◌≤◌, ◌⊎◌, inl, inr, true, false, ℤ, pos, List, [], ◌∷◌, ◌++◌, length, get_or, map, take, refl, sym, ap, ap₂, subst, ◌∙◌, arith, All, ⊎_elim}
-use Rattle.std.specs.Prelude.{Option, Some, None, is_some}
+use Rattle.std.specs.Prelude.{Option, Some, None, is_some, IsSomeAnd}
 use Rattle.std.proofs.lemmas.List.{append-nil, length-map, take_all, take_at}
 use Rattle.std.proofs.lemmas.List.Elements.{All-get_or}
 use Rattle.exact_math.specs.Ring.{Ring, integers}
@@ -38,7 +38,7 @@ use Rattle.farkas_lift.proofs.NodeComes.{sides-cut}
 use Rattle.farkas_lift.proofs.RestLaws.{combination-wholes, wide_back}
 use Rattle.farkas_lift.proofs.SideSteps.{factors_any}
 use Rattle.node_lines.specs.Combinations.{AreOfNode, ComesOver, IsRefutation}
-use Rattle.node_lines.specs.NodeLines.{cut_multiplier, cut_part, end_uses}
+use Rattle.node_lines.specs.NodeLines.{cut_multiplier, cut_part, end_use, end_uses}
 use Rattle.node_lines.specs.NodeSystems.{system_limits, system_rows, IsFramedNode, IsPastEnd}
 use Rattle.node_lines.proofs.NodeSums.{end-factor, end-limit, refuted-with}
 
@@ -133,11 +133,11 @@ module _ (frame : Substitution) (work : ReducedRows) (cut : Option ℤ) (weights
 
 -- ---- an empty system
 
-pub empty-refuted : (model : WholeRows) (work : ReducedRows) (frame : Substitution) (path : List Slice) (cut : Option ℤ) (weights : List ℚ) (items : List FracUse) → IsWithinLimits model → IsShaped frame → IsFramedNode model work frame path
+empty-refuted_at : (model : WholeRows) (work : ReducedRows) (frame : Substitution) (path : List Slice) (cut : Option ℤ) (weights : List ℚ) (items : List FracUse) → IsWithinLimits model → IsShaped frame → IsFramedNode model work frame path
     → ShowsEmpty (dimension_of frame) (system_rows frame work cut) (system_limits frame work cut) weights → AreOfNode model path items
     → ((end : Option Inequality) (value : ℤ) → IsNodeOverKept model path end → ComesOver model work path end value (cut_multiplier work weights) items (system_form frame work weights) (lifted_limit frame work value weights))
     → IsRefutation model path None (cut_part cut (cut_multiplier work weights)) items
-empty-refuted model work frame path cut weights items limits shaped node empty of_node comes =
+empty-refuted_at model work frame path cut weights items limits shaped node empty of_node comes =
     let form : system_form frame work weights ≡ zeros rationals (columns_of frame) =
     form-is frame work cut weights empty.as_many (zeros rationals (dimension_of frame)) empty.factors ∙ combination-zeros rationals (columns_of frame) (dimension_of frame) (whole_rows (rows_in frame.back)) (HasWidth-wholes (columns_of frame) (rows_in frame.back) (wide_back frame shaped [] tt [])) in
     let limit : lifted_limit frame work (cut_of cut) weights +ℚ none ≡ dot rationals weights (system_limits frame work cut) =
@@ -150,6 +150,14 @@ empty-refuted model work frame path cut weights items limits shaped node empty o
     (λ column h removed. refl)
     (λ k h. rationals.add_zero _ ∙ ap (λ l. get_or l k none) form ∙ Matrices.zeros-at rationals (columns_of frame) k)
     (subst (λ q. q <ℚ none) (sym limit) empty.limit))
+
+pub empty-refuted : (model : WholeRows) (work : ReducedRows) (frame : Substitution) (path : List Slice) (cut : Option ℤ) (weights : List ℚ) (times : ℚ) (items : List FracUse) → IsWithinLimits model → IsShaped frame → IsFramedNode model work frame path
+    → ShowsEmpty (dimension_of frame) (system_rows frame work cut) (system_limits frame work cut) weights → times ≡ cut_multiplier work weights → AreOfNode model path items
+    → ((end : Option Inequality) (value : ℤ) → IsNodeOverKept model path end → ComesOver model work path end value times items (system_form frame work weights) (lifted_limit frame work value weights))
+    → IsRefutation model path None (cut_part cut times) items
+empty-refuted model work frame path cut weights times items limits shaped node empty is of_node comes =
+    subst (λ (t : ℚ). IsRefutation model path None (cut_part cut t) items) (sym is)
+    (empty-refuted_at model work frame path cut weights items limits shaped node empty of_node (λ end value over. subst (λ (t : ℚ). ComesOver model work path end value t items (system_form frame work weights) (lifted_limit frame work value weights)) is (comes end value over)))
 
 -- ---- an end of a form
 
@@ -177,7 +185,7 @@ below-none a b h =
 both_turned : (v w : ℚ) → neg_ℚ v +ℚ neg_ℚ w ≡ neg_ℚ (v +ℚ w)
 both_turned v w = ring rationals (v ∷ w ∷ []) (search reads depth 30) (search reads depth 30) refl
 
-pub end-refuted : (model : WholeRows) (work : ReducedRows) (frame : Substitution) (path : List Slice) (cut : Option ℤ) (end : Inequality) (weights : List ℚ) (items : List FracUse) → IsWithinLimits model → IsFramedNode model work frame path
+end-refuted : (model : WholeRows) (work : ReducedRows) (frame : Substitution) (path : List Slice) (cut : Option ℤ) (end : Inequality) (weights : List ℚ) (items : List FracUse) → IsWithinLimits model → IsFramedNode model work frame path
     → IsPastEnd model work frame cut weights end → AreOfNode model path items
     → ((end : Option Inequality) (value : ℤ) → IsNodeOverKept model path end → ComesOver model work path end value (cut_multiplier work weights) items (system_form frame work weights) (lifted_limit frame work value weights))
     → IsRefutation model path (Some end) (cut_part cut (cut_multiplier work weights)) (items ++ end_uses model path (Some end))
@@ -203,3 +211,14 @@ end-refuted model work frame path cut end weights items limits node past of_node
     (end-factor model path end (get_or work.column_numbers k 0))
     ∙ rationals.add_comm _ _ ∙ rationals.add_neg _)
     (subst (λ q. q <ℚ none) (sym limit) (below-none (whole end.limit) (past.value +ℚ whole (dot integers (work_form work end.factors) frame.to_work.base)) past.past))
+
+-- with the items as the code has them
+pub past-refuted : (model : WholeRows) (work : ReducedRows) (frame : Substitution) (path : List Slice) (cut : Option ℤ) (end : Option Inequality) (weights : List ℚ) (times : ℚ) (items all : List FracUse) (last : FracUse) → IsWithinLimits model → IsFramedNode model work frame path
+    → IsSomeAnd end (IsPastEnd model work frame cut weights) → times ≡ cut_multiplier work weights → AreOfNode model path items
+    → ((end : Option Inequality) (value : ℤ) → IsNodeOverKept model path end → ComesOver model work path end value times items (system_form frame work weights) (lifted_limit frame work value weights))
+    → all ≡ items ++ last ∷ [] → last ≡ end_use model path → IsRefutation model path end (cut_part cut times) all
+past-refuted model work frame path cut None weights times items all last limits node past is of_node comes is_all is_last = absurd past
+past-refuted model work frame path cut (Some end) weights times items all last limits node past is of_node comes is_all is_last =
+    subst (IsRefutation model path (Some end) (cut_part cut times)) (sym (is_all ∙ ap (λ (item : FracUse). items ++ item ∷ []) is_last))
+    (subst (λ (t : ℚ). IsRefutation model path (Some end) (cut_part cut t) (items ++ end_use model path ∷ [])) (sym is)
+    (end-refuted model work frame path cut end weights items limits node past of_node (λ end value over. subst (λ (t : ℚ). ComesOver model work path end value t items (system_form frame work weights) (lifted_limit frame work value weights)) is (comes end value over))))
