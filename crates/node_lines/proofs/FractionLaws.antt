@@ -1,6 +1,6 @@
 -- The least whole line of multipliers that refute a node refutes it.
-use Rattle.std.proofs.Common.{◌≡◌, ℕ, zero, suc, ◌+◌, ◌^◌, ◌<◌, ◌≤◌, List, [], ◌∷◌, ◌++◌, length, get_or, map, ℤ, pos, neg_ℤ, ◌+ℤ◌, ◌*ℤ◌, ◌≤ℤ◌, ◌<ℤ◌, refl, sym, ap, ap₂, ◌∙◌, subst, arith}
-use Rattle.std.specs.Prelude.{Option, Some, None, IsSome, IfSome, All, option_map, option_to_list, unwrap_or}
+use Rattle.std.proofs.Common.{◌≡◌, ℕ, zero, suc, ◌^◌, ◌<◌, List, [], ◌∷◌, length, get_or, map, ℤ, pos, neg_ℤ, ◌*ℤ◌, ◌≤ℤ◌, ◌<ℤ◌, refl, sym, ap, ap₂, ◌∙◌, subst, arith}
+use Rattle.std.specs.Prelude.{Option, Some, None, IsSome, IfSome, All, option_map, unwrap_or}
 use Rattle.std.specs.List.{AllZip}
 use Rattle.std.specs.Ordering.{int_eq}
 use Rattle.std.proofs.lemmas.Bool.{cond_both}
@@ -8,7 +8,7 @@ use Rattle.std.specs.List.Sorted.{IsStrictlyIncreasing}
 use Rattle.exact_math.specs.Ring.{integers}
 use Rattle.exact_math.specs.RingLaws as Laws
 use Rattle.exact_math.specs.IntegerRing.{linear}
-use Rattle.exact_math.specs.Rational.{ℚ, whole, neg_ℚ, ◌+ℚ◌, ◌*ℚ◌, ◌≤ℚ◌, ◌<ℚ◌}
+use Rattle.exact_math.specs.Rational.{ℚ, whole, neg_ℚ, ◌+ℚ◌, ◌*ℚ◌, ◌<ℚ◌}
 use Rattle.exact_math.specs.RationalRing.{rationals, whole_add, whole_mul}
 use Rattle.exact_math.specs.RationalOrder.{pos_from_num, num_pos}
 use Rattle.exact_math.specs.RingSolver.{ring, reads}
@@ -25,7 +25,7 @@ use Rattle.farkas_rows.specs.declared.path.Slice.{Slice}
 use Rattle.farkas_rows.specs.Inequalities.{Inequality, inequality_at, cut_inequality}
 use Rattle.farkas_rows.specs.LeastLine.{IsLeastLine, fractions}
 use Rattle.farkas_rows.specs.NodeLaws.{used-dense}
-use Rattle.farkas_rows.specs.Refutes.{HasForms, IsDense, IsMultiplier, Refutes, line_of, line_weight, multipliers, nothing, used}
+use Rattle.farkas_rows.specs.Refutes.{HasForms, IsDense, Refutes, line_of, line_weight, multipliers, nothing, used}
 use Rattle.farkas_rows.specs.Sides.{factor_of, ComesTo}
 use Rattle.farkas_rows.proofs.LeastLemmas.{whole_num}
 use Rattle.farkas_rows.proofs.LeastLineLemmas.{multiple_positive, least_positive, least_there}

@@ -1,5 +1,5 @@
 -- The numbers of lifted items: each names an inequality of the node, and all are below that of an end.
-use Rattle.std.proofs.Common.{◌≡◌, ℕ, zero, suc, ◌+◌, ◌-◌, ◌*◌, ◌<◌, ◌≤◌, ◌⊎◌, inl, inr, true, pos, List, [], ◌∷◌, ◌++◌, length, get_or, refl, sym, ap, subst, ◌∙◌, arith, All, ⊎_elim}
+use Rattle.std.proofs.Common.{◌≡◌, ℕ, zero, suc, ◌+◌, ◌-◌, ◌*◌, ◌<◌, ◌≤◌, ◌⊎◌, inl, inr, pos, List, [], ◌∷◌, ◌++◌, length, get_or, refl, sym, ap, subst, ◌∙◌, arith, All, ⊎_elim}
 use Rattle.std.specs.Prelude.{Option, Some, None, IsSome, int_lt, if◌then◌else◌, option_to_list}
 use Rattle.std.specs.List.Sorted.{IsStrictlyIncreasing}
 use Rattle.std.proofs.Math.ListN.{get_or-append}
@@ -23,7 +23,6 @@ use Rattle.farkas_lift.specs.declared.place.Place.TheVariants.{Side, Equality}
 use Rattle.farkas_lift.proofs.NodePlaces.{places-within}
 use Rattle.farkas_lift.proofs.UseLaws.{uses-each, AtPlace, Within}
 use Rattle.node_lines.specs.Combinations.{AreOfNode}
-use Rattle.node_lines.specs.NodeLines.{end_number}
 
 -- ---- those of the items of a node
 

@@ -1,5 +1,5 @@
 -- What the lifted items of a node come to, with the inequality at an end.
-use Rattle.std.proofs.Common.{◌≡◌, ℕ, zero, suc, ◌+◌, ◌*◌, ◌<◌, ◌≤◌, Bool, true, false, ℤ, pos, ◌+ℤ◌, ◌-ℤ◌, neg_ℤ, List, [], ◌∷◌, ◌++◌, length, get_or, map, refl, sym, ap, ap₂, subst, ◌∙◌, arith, All}
+use Rattle.std.proofs.Common.{◌≡◌, ℕ, zero, suc, ◌+◌, ◌*◌, ◌<◌, Bool, true, false, ℤ, pos, ◌-ℤ◌, neg_ℤ, List, [], ◌∷◌, ◌++◌, length, get_or, map, refl, sym, ap, ap₂, subst, ◌∙◌, arith, All}
 use Rattle.std.specs.Prelude.{Option, Some, None, IsSome, option_map, option_to_list, unwrap_or}
 use Rattle.std.specs.Ordering.{int_eq}
 use Rattle.std.specs.List.Sorted.{IsStrictlyIncreasing}
@@ -8,7 +8,7 @@ use Rattle.std.proofs.lemmas.Bool.Decides.{Decides-int_eq, not_from_Decides}
 use Rattle.std.proofs.lemmas.Int.{ints}
 use Rattle.std.proofs.lemmas.List.{append-nil, get_or-map, length-map, map-append}
 use Rattle.std.proofs.lemmas.List.Elements.{All-nil, All-cons, All-append, All-map}
-use Rattle.exact_math.specs.Rational.{ℚ, whole, neg_ℚ, ◌+ℚ◌, ◌-ℚ◌, ◌*ℚ◌, ◌≤ℚ◌, ◌<ℚ◌}
+use Rattle.exact_math.specs.Rational.{ℚ, whole, neg_ℚ, ◌+ℚ◌, ◌*ℚ◌, ◌≤ℚ◌, ◌<ℚ◌}
 use Rattle.exact_math.specs.RationalLaws.{zero_from_num}
 use Rattle.exact_math.specs.RationalOrder.{num_nonneg, pos_from_num}
 use Rattle.exact_math.specs.RationalRing.{rationals, whole_add}
@@ -20,7 +20,6 @@ use Rattle.farkas_rows.specs.declared.fracs.CutFrac.{CutFrac}
 use Rattle.farkas_rows.specs.declared.fracs.FracUse.{FracUse}
 use Rattle.farkas_rows.specs.declared.path.Slice.{Slice}
 use Rattle.farkas_rows.specs.Inequalities.{Inequality, inequality_at, cut_inequality}
-use Rattle.farkas_rows.specs.LeastLine.{fractions}
 use Rattle.farkas_rows.specs.NumberLaws.{number-end}
 use Rattle.farkas_rows.specs.Refutes.{nothing}
 use Rattle.farkas_rows.specs.Sides.{factor_of}
@@ -30,7 +29,6 @@ use Rattle.presolve_map.specs.ReducedRows.{ReducedRows, IsReduced}
 use Rattle.presolve_map.specs.Selections.{positions}
 use Rattle.farkas_lift.specs.NodeLifting.{ComesTo}
 use Rattle.farkas_lift.specs.NodeSystem.{cut_of}
-use Rattle.farkas_lift.proofs.JoinedLaws.{place}
 use Rattle.farkas_lift.proofs.NodeValues as Node
 use Rattle.farkas_lift.proofs.UseLaws.{total-append}
 use Rattle.node_lines.specs.Combinations.{cut_share, AreOfNode, ComesOver, IsRefutation}

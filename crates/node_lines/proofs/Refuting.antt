@@ -1,10 +1,9 @@
 -- Multipliers of a node's system that show it to be empty, or an end of a form to be past it, refute it as multipliers of the model's inequalities.
-use Rattle.std.proofs.Common.{◌≡◌, ℕ, zero, suc, ◌+◌, ◌<◌, ◌≤◌, ◌⊎◌, inl, inr, true, false, ℤ, pos, List, [], ◌∷◌, ◌++◌, length, get_or, map, take, refl, sym, ap, ap₂, subst, ◌∙◌, arith, All, ⊎_elim}
+use Rattle.std.proofs.Common.{◌≡◌, ℕ, zero, suc, ◌≤◌, inl, inr, true, false, ℤ, pos, List, [], ◌∷◌, ◌++◌, length, get_or, map, take, refl, sym, ap, ap₂, subst, ◌∙◌, arith, All, ⊎_elim}
 use Rattle.std.specs.Prelude.{Option, Some, None, is_some, IsSomeAnd}
 use Rattle.std.proofs.lemmas.List.{append-nil, length-map, take_all, take_at}
-use Rattle.std.proofs.lemmas.List.Elements.{All-get_or}
 use Rattle.exact_math.specs.Ring.{Ring, integers}
-use Rattle.exact_math.specs.Rational.{ℚ, whole, neg_ℚ, ◌+ℚ◌, ◌*ℚ◌, ◌≤ℚ◌, ◌<ℚ◌}
+use Rattle.exact_math.specs.Rational.{ℚ, whole, neg_ℚ, ◌+ℚ◌, ◌≤ℚ◌, ◌<ℚ◌}
 use Rattle.exact_math.specs.RationalOrder.{add_le_right, le_or_lt, le_refl, not_le_of_lt}
 use Rattle.exact_math.specs.RationalRing.{rationals}
 use Rattle.exact_math.specs.RingLaws as Laws
@@ -15,14 +14,14 @@ use Rattle.exact_vectors.specs.DotLaws as Dot
 use Rattle.exact_vectors.specs.MatrixLaws as Matrices
 use Rattle.spaces.specs.Tables.{rows_in}
 use Rattle.lp_dict.specs.Systems.{wholes, whole_rows}
-use Rattle.lp_solve.specs.Certificates.{ShowsEmpty, ShowsLeast}
+use Rattle.lp_solve.specs.Certificates.{ShowsEmpty}
 use Rattle.whole_rows.specs.WholeRows.{WholeRows, IsWithinLimits}
 use Rattle.row_lifting.specs.Lifting.{none}
 use Rattle.farkas_rows.specs.declared.fracs.FracUse.{FracUse}
 use Rattle.farkas_rows.specs.declared.path.Slice.{Slice}
 use Rattle.farkas_rows.specs.Inequalities.{Inequality}
 use Rattle.reformulate.specs.Substitutions.{Substitution, columns_of, dimension_of, IsShaped}
-use Rattle.presolve_map.specs.LiftedLines.{total, factor_in, limit_in, IsNodeOverKept}
+use Rattle.presolve_map.specs.LiftedLines.{total, limit_in, IsNodeOverKept}
 use Rattle.presolve_map.specs.ReducedRows.{ReducedRows}
 use Rattle.farkas_lift.specs.NodeEqualities.{work_form}
 use Rattle.farkas_lift.specs.NodeLifting.{lifted_limit, system_form, system_left, system_limit, weighted_sides, HasOneEach}

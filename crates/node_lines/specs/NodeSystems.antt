@@ -1,5 +1,5 @@
 -- The system of a node over the rational numbers, and multipliers that show an end of a form to be empty.
-use Rattle.std.specs.Prelude.{◌≡◌, ℤ, pos, List, length, map, Option}
+use Rattle.std.specs.Prelude.{◌≡◌, ℤ, List, length, map, Option}
 use Rattle.std.specs.List.{All}
 use Rattle.exact_math.specs.Rational.{ℚ, whole, ◌+ℚ◌, ◌<ℚ◌}
 use Rattle.exact_math.specs.Ring.{integers}

@@ -1,9 +1,4 @@
-use Rattle.std.proofs.Common.{subst}
-use Rattle.std.specs.Prelude.{None}
-use Rattle.exact_math.specs.Rational.{ℚ}
 use Rattle.farkas_lift.proofs.LiftSteps.{on_ok}
-use Rattle.node_lines.specs.Combinations.{IsRefutation}
-use Rattle.node_lines.specs.NodeLines.{cut_part}
 use Rattle.node_lines.proofs.Refuting.{empty-refuted}
 use Rattle.node_lines.proofs.lines.empty_line.Goals as goal
 

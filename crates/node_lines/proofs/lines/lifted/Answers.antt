@@ -1,6 +1,3 @@
-use Rattle.std.proofs.Common.{subst}
-use Rattle.std.specs.Prelude.{List}
-use Rattle.farkas_rows.specs.declared.fracs.FracUse.{FracUse}
 use Rattle.farkas_lift.specs.NodeLifting.{equality_times, lifted_limit, system_form}
 use Rattle.node_lines.proofs.NodeNumbers.{are-of-node}
 use Rattle.node_lines.proofs.NodeSums.{comes-over}

@@ -1,6 +1,5 @@
-use Rattle.std.proofs.Common.{◌≡◌, List, [], subst}
+use Rattle.std.proofs.Common.{◌≡◌, [], subst}
 use Rattle.std.specs.Prelude.{Option}
-use Rattle.exact_math.specs.Rational.{ℚ}
 use Rattle.farkas_rows.specs.Ends.{inequality_of}
 use Rattle.farkas_rows.specs.LeastLine.{fractions, IsLeastLine}
 use Rattle.farkas_rows.specs.declared.fracs.CutFrac.{CutFrac}
