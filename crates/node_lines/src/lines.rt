@@ -90,11 +90,9 @@ fn lifted<'a>(alloc: Global, node: &Node<'a>, weights: &[Frac]) -> Result<WorkTi
     let _rows = node.model.rows();
     let _dimension = node.frame.dimension();
     let times = lift(alloc, node.model, node.frame, node.work, node.path, weights)?;
+    let cut = times.cut;
     let items = lift_line(alloc, node.model, &times)?;
-    Ok(WorkTimes {
-        cut: times.cut,
-        items,
-    })
+    Ok(WorkTimes { cut, items })
 }
 
 /// The inequality at the end of a form, once: its number is behind those of the slices.
