@@ -1,0 +1,2 @@
+pub mod NodeFrames
+pub mod NodeRegions
