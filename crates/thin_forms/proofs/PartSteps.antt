@@ -48,6 +48,11 @@ pub quotient_exact : (z : ℤ) (g : ℕ) → g ∣ nat_abs z → pos g *ℤ int_
 quotient_exact (pos n) g h = ap pos (mul-div_cancel' g h)
 quotient_exact (negsuc n) g h = Z.mul_neg (pos g) (pos (suc n / g)) ∙ ap (λ k. neg_ℤ (pos k)) (mul-div_cancel' g h)
 
+-- the same of a divisor above 0
+pub quotient_whole : (z d : ℤ) → pos 0 <ℤ d → nat_abs d ∣ nat_abs z → d *ℤ int_div z d ≡ z
+quotient_whole z (pos g) positive h = quotient_exact z g h
+quotient_whole z (negsuc g) positive h = absurd (omega (arith, ints, positive))
+
 -- one more factor
 pub quotients_more : (d : ℤ) (factors items new : List ℤ) (j : ℕ) (q a : ℤ) → j < length factors → scale integers d items ≡ take j factors → a ≡ get_or factors j (pos 0) → d *ℤ q ≡ a → new ≡ items ++ q ∷ [] → scale integers d new ≡ take (j + 1) factors
 quotients_more d factors items new j q a h before at is put =
@@ -69,12 +74,22 @@ part_of_quotients factors form d is some e = record {
     above : (n : ℕ) → n ≢ 0 → 0 < n
     above n h = omega (arith, h)
 
+-- the greatest common divisor as a number of the code
+pub divisor_common : (factors : List ℤ) (d : ℤ) → d ≡ pos (common_divisor factors) → All (λ factor. nat_abs d ∣ nat_abs factor) factors
+divisor_common factors d is = subst (λ (z : ℤ). All (λ (factor : ℤ). nat_abs z ∣ nat_abs factor) factors) (sym is) (divisor_divides factors)
+
+pub zero_divisor : (factors : List ℤ) (d : ℤ) → d ≡ pos (common_divisor factors) → d ≡ pos 0 → All (λ factor. factor ≡ pos 0) factors
+zero_divisor factors d is none = none_but_zeros factors (omega (arith, ints, is, none))
+
 -- its factors are no larger
 pub part_narrow : (factors form : List ℤ) → IsPrimitivePart factors form → All IsNarrow factors → All IsNarrow form
 part_narrow factors form part h = go part.divisor part.positive form (subst (All IsNarrow) part.multiple h)
   where
+    product_le : (a b c d : ℕ) → a ≤ b → c ≤ d → a * c ≤ b * d
+    product_le a b c d h k = mul-le-mul h k
+
     smaller : (g : ℕ) (a : ℤ) → 0 < g → IsNarrow (pos g *ℤ a) → IsNarrow a
-    smaller g a some n = omega (arith, n, abs_mul (pos g) a, mul-le-mul {1} {g} {nat_abs a} {nat_abs a} some (omega arith))
+    smaller g a some n = omega (arith, n, abs_mul (pos g) a, product_le 1 g (nat_abs a) (nat_abs a) some (omega arith))
 
     go : (g : ℕ) → 0 < g → (form : List ℤ) → All IsNarrow (scale integers (pos g) form) → All IsNarrow form
     go g some [] n = All-nil IsNarrow
@@ -100,17 +115,17 @@ scale-one [] = refl
 scale-one (a ∷ v) = ap₂ (λ (z : ℤ) (w : List ℤ). z ∷ w) (Z.one_mul a) (scale-one v)
 
 -- a factor other than 0 may be left out
+same_head : (a b : ℤ) (v w : List ℤ) → a ∷ v ≡ b ∷ w → a ≡ b
+same_head a b v w e = cc
+
+same_tail : (a b : ℤ) (v w : List ℤ) → a ∷ v ≡ b ∷ w → v ≡ w
+same_tail a b v w e = cc
+
 scale-cancel : (k : ℤ) (v w : List ℤ) → k ≢ pos 0 → scale integers k v ≡ scale integers k w → v ≡ w
 scale-cancel k [] [] some e = refl
 scale-cancel k [] (b ∷ w) some e = cc
 scale-cancel k (a ∷ v) [] some e = cc
-scale-cancel k (a ∷ v) (b ∷ w) some e = ap₂ (λ (z : ℤ) (l : List ℤ). z ∷ l) (mul_cancel k a b some (heads e)) (scale-cancel k v w some (tails e))
-  where
-    heads : k *ℤ a ∷ scale integers k v ≡ k *ℤ b ∷ scale integers k w → k *ℤ a ≡ k *ℤ b
-    heads q = cc
-
-    tails : k *ℤ a ∷ scale integers k v ≡ k *ℤ b ∷ scale integers k w → scale integers k v ≡ scale integers k w
-    tails q = cc
+scale-cancel k (a ∷ v) (b ∷ w) some e = ap₂ (λ (z : ℤ) (l : List ℤ). z ∷ l) (mul_cancel k a b some (same_head _ _ _ _ e)) (scale-cancel k v w some (same_tail _ _ _ _ e))
 
 -- a divisor divides the factors of a multiple
 divides_multiple : (k : ℕ) (v : List ℤ) → All (λ factor. k ∣ nat_abs factor) (scale integers (pos k) v)
