@@ -52,7 +52,7 @@ chosen_none p lines j form g none before = record {
   is_gauge = before.is_gauge;
   thin = before.thin;
   columns = λ column other lt free.
-  ⊎_elim (λ (e : column ≡ j). absurd (zeros_not_free lines j other none (subst (λ k. IsFreeColumn lines k other) e free))) (λ (n : column ≡ j → ⊥). before.columns column other (omega (arith, lt, n)) free) (cases_eq column j);
+      ⊎_elim (λ (e : column ≡ j). absurd (zeros_not_free lines j other none (subst (λ k. IsFreeColumn lines k other) e free))) (λ (n : column ≡ j → ⊥). before.columns column other (omega (arith, lt, n)) free) (cases_eq column j);
 }
 
 -- the number is at most the width of column j, made primitive
@@ -70,7 +70,7 @@ chosen_kept p lines j form part g new is gauge le before = record {
   is_gauge = before.is_gauge;
   thin = before.thin;
   columns = λ column other lt free.
-  ⊎_elim (λ (e : column ≡ j). below_part p lines j part new g.value is gauge le other (subst (λ k. IsFreeColumn lines k other) e free)) (λ (n : column ≡ j → ⊥). before.columns column other (omega (arith, lt, n)) free) (cases_eq column j);
+      ⊎_elim (λ (e : column ≡ j). below_part p lines j part new g.value is gauge le other (subst (λ k. IsFreeColumn lines k other) e free)) (λ (n : column ≡ j → ⊥). before.columns column other (omega (arith, lt, n)) free) (cases_eq column j);
 }
 
 -- one that is
@@ -86,8 +86,8 @@ chosen_new p lines j form part g new inside long is gauge less before =
       is_gauge = gauge;
       thin = λ other same some bound h. Order.le_trans new.value g.value _ le (before.thin other same some bound h);
       columns = λ column other lt free_other.
-      ⊎_elim (λ (e : column ≡ j). below_part p lines j part new new.value is gauge (Order.le_refl new.value) other (subst (λ k. IsFreeColumn lines k other) e free_other))
-      (λ (n : column ≡ j → ⊥). λ bound h. Order.le_trans new.value g.value _ le (before.columns column other (omega (arith, lt, n)) free_other bound h)) (cases_eq column j);
+          ⊎_elim (λ (e : column ≡ j). below_part p lines j part new new.value is gauge (Order.le_refl new.value) other (subst (λ k. IsFreeColumn lines k other) e free_other))
+          (λ (n : column ≡ j → ⊥). λ bound h. Order.le_trans new.value g.value _ le (before.columns column other (omega (arith, lt, n)) free_other bound h)) (cases_eq column j);
     }
 
 -- ---- all columns

@@ -11,6 +11,7 @@ use Rattle.exact_math.specs.GcdLaws.{dvd_gcd, gcd_dvd_left, gcd_dvd_right}
 use Rattle.exact_math.specs.IntegerLaws as Z
 use Rattle.exact_math.specs.IntegerOrder.{abs_mul, mul_cancel, zero_of_mul}
 use Rattle.exact_math.specs.Ring.{integers}
+use Rattle.exact_vectors.specs.MatrixLaws as Matrix
 use Rattle.exact_vectors.specs.Vectors.{scale}
 use Rattle.form_widths.specs.Directions.{IsFreeColumn}
 use Rattle.form_widths.specs.PrimitiveLaws.{primitive_nonzero, primitive_part}
@@ -73,6 +74,10 @@ part_of_quotients factors form d is some e = record {
   where
     above : (n : ℕ) → n ≢ 0 → 0 < n
     above n h = omega (arith, h)
+
+-- it has as many factors
+pub part_length : (factors form : List ℤ) → IsPrimitivePart factors form → length form ≡ length factors
+part_length factors form part = sym (Matrix.length-scale integers (pos part.divisor) form) ∙ ap length (sym part.multiple)
 
 -- the greatest common divisor as a number of the code
 pub divisor_common : (factors : List ℤ) (d : ℤ) → d ≡ pos (common_divisor factors) → All (λ factor. nat_abs d ∣ nat_abs factor) factors
