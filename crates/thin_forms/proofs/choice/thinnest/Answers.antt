@@ -15,5 +15,5 @@ pub returns-clause-direction : goal.returns-clause-direction
 returns-clause-direction c =
     let p = polytope_of c.args.system.now.rows c.args.system.now.limits in
     let lines = rows_in c.args.lines.now in
-    let all : length lines ≤ c.loop-j.j = omega (arith, count_is c.args.lines.now, c.loop-j-test.false, c.rows.ensures.count) in
+    let all : length lines ≤ c.loop-j.j = omega (arith, count_is c.args.lines.now, c.loop-j-test.false, c.rows-j-end.ensures.count) in
     chosen_direction p lines c.loop-j.j c.loop-j.best.form c.loop-j.best.gauge c.requires.ready.some all c.loop-j.invariant

@@ -1,5 +1,5 @@
-use Rattle.std.proofs.Common.{◌≡◌, ◌<◌, ◌≤◌, [], length, get_or, ap, arith, rules, subst, sym, ◌∙◌}
-use Rattle.std.specs.Prelude.{All, IfSome}
+use Rattle.std.proofs.Common.{◌≡◌, ◌<◌, ◌≤◌, [], length, get_or, pos, arith, subst, sym, ◌∙◌}
+use Rattle.std.specs.Prelude.{All, IfNone, IfSome}
 use Rattle.exact_math.specs.Rational.{◌≤ℚ◌, ◌<ℚ◌}
 use Rattle.exact_math.specs.RationalTests.{le_false, le_true}
 use Rattle.frac128.specs.Range.{IsNarrow}
@@ -10,15 +10,17 @@ use Rattle.norm_gauge.specs.Widths.{polytope_of}
 use Rattle.spaces.specs.Tables.{rows_in}
 use Rattle.thin_forms.specs.Parts.{IsPrimitivePart}
 use Rattle.thin_forms.proofs.PartSteps.{part_is_free, part_length}
-use Rattle.thin_forms.proofs.RowSteps.{count_is, line_is, line_narrow, lines_narrow}
+use Rattle.thin_forms.proofs.RowSteps.{count_is, line_is, lines_narrow}
 use Rattle.thin_forms.proofs.ChoiceSteps.{chosen_kept, chosen_new, chosen_none}
 use Rattle.thin_forms.proofs.answer.ThinForm.weigh.Goals as goal
 
 pub returns-in_default-clause-chosen : goal.returns-in_default-clause-chosen
 returns-in_default-clause-chosen c =
-    let h = c.in_default.is in
-    let k = c.in_default.not-Some in
-    ?
+    let p = polytope_of c.args.system.now.rows c.args.system.now.limits in
+    let lines = rows_in c.args.lines.now in
+    let line : c.row.result.now ≡ get_or lines c.args.j [] = c.row.ensures.value ∙ sym (line_is c.args.lines.now c.args.j c.requires.inside) in
+    let none : All (λ factor. factor ≡ pos 0) c.row.result.now = subst (λ o. IfNone o (All (λ factor. factor ≡ pos 0) c.row.result.now)) c.in_default.is c.in_ok-form.ensures.none in
+    chosen_none p lines c.args.j c.args.self.now.form c.args.self.now.gauge (subst (All (λ factor. factor ≡ pos 0)) line none) c.requires.chosen
 
 pub width-requires-clause-condition : goal.width-requires-clause-condition
 width-requires-clause-condition c =
