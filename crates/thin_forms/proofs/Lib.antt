@@ -1,4 +1,4 @@
 pub mod PartSteps
 pub mod RowSteps
 pub mod ChoiceSteps
-pub mod WorkedLines
+pub mod WorkedSystems

@@ -1,4 +1,4 @@
-//! A small system, with the answer found by hand.
+//! Small systems, with answers found by hand.
 ghost use Rattle.std.specs.Prelude.{◌≡◌, ◌*◌, ◌≤◌, ◌^◌, length, IfOk};
 
 use crate::{ThinForm, thinnest};
@@ -52,5 +52,18 @@ fn a_skew_strip_is_thin_across(rt: HostRuntime) -> Result<(), Fail> {
     assert!(rt; forward || backward);
     assert_eq!(rt; gauge.value.num(), 697999);
     assert_eq!(rt; gauge.value.den(), 1001000);
+    Ok(())
+}
+
+#[test]
+fn a_column_is_thinner_than_the_basis(rt: HostRuntime) -> Result<(), Fail> {
+    // 10x + y >= 2, x + 10y >= 2, 10x + 11y <= 19, and both from 0 to 2; the columns are x, y and 2x + 2y
+    let items = [-10, -1, -1, -10, 10, 11, 1, 0, -1, 0, 0, 1, 0, -1];
+    let system = system_of(rt.alloc(), 2, &items, &[-2, -2, 19, 2, 0, 2, 0])?;
+    let lines = grid_of(rt.alloc(), 3, 2, &[1, 0, 0, 1, 2, 2])?;
+    let ThinForm { form, gauge } = thinnest(rt.alloc(), &system, &lines)?;
+    assert_eq!(rt; form.items(), [1, 1].as_slice());
+    assert_eq!(rt; gauge.value.num(), 1503);
+    assert_eq!(rt; gauge.value.den(), 979);
     Ok(())
 }
