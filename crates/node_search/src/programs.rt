@@ -193,7 +193,7 @@ impl Programs {
     /// Those of a slice of the node.
     pub fn of_slice(&self, alloc: Global, sliced: Sliced<'_>) -> Result<Programs, NoMemory> {
         let dict = slice_dict(alloc, &self.dict, sliced.form.items(), sliced.value)?;
-        let short = self.short.with(alloc, sliced.work.items())?;
+        let short = self.short.extended(alloc, sliced.work.items())?;
         let forms = slice_forms(alloc, &self.forms, sliced, &short);
         Ok(Programs {
             dict,

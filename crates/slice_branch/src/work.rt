@@ -110,9 +110,6 @@ pub(crate) fn framed_move<'a>(
     match programs.find(alloc, model, task, given.frame, given.further)? {
         Found::Empty(line) => closed(task, line),
         Found::Point(point) => Ok(Move::Point(point)),
-        Found::Thin {
-            direction,
-            points,
-        } => split(alloc, task, given.most, direction, &points),
+        Found::Thin { direction, points } => split(alloc, task, given.most, direction, &points),
     }
 }

@@ -126,7 +126,12 @@ pub(crate) fn slice_forms(
     sliced: Sliced<'_>,
     short: &Shortener,
 ) -> Result<Grid<Work, i128>, Halt> {
-    let Sliced { frame, pair, slice, .. } = sliced;
+    let Sliced {
+        frame,
+        pair,
+        slice,
+        ..
+    } = sliced;
     let left = product(alloc, &without_first_row(alloc, pair.u())?, forms)?;
     let vectors: Grid<Kernel, i128> = product(
         alloc,

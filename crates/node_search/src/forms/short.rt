@@ -77,7 +77,7 @@ impl Shortener {
     }
 
     /// A copy.
-    fn copied(&self, alloc: Global) -> Result<Shortener, Halt> {
+    fn copied(&self, alloc: Global) -> Result<Shortener, NoMemory> {
         let mut forms = Vec::with_capacity(alloc, self.forms.len() + 1)?;
         for form in &self.forms {
             forms.push(Squared {
@@ -88,41 +88,22 @@ impl Shortener {
         Ok(Shortener { forms })
     }
 
-    /// A copy with a further equality.
-    fn longer(&self, alloc: Global, factors: &[i128]) -> Result<Shortener, Halt> {
-        let mut all = self.copied(alloc)?;
-        all.add(alloc, factors)?;
-        Ok(all)
-    }
-
     /// A copy with a further equality, or without it where numbers leave their range.
-    pub(crate) fn with(&self, alloc: Global, factors: &[i128]) -> Result<Shortener, NoMemory> {
-        match self.longer(alloc, factors) {
-            Err(Halt::GivesUp) => in_memory(self.copied(alloc), alloc),
-            all => in_memory(all, alloc),
+    pub(crate) fn extended(&self, alloc: Global, factors: &[i128]) -> Result<Shortener, NoMemory> {
+        let mut all = self.copied(alloc)?;
+        match all.add(alloc, factors) {
+            Ok(()) => Ok(all),
+            Err(Halt::NoMemory) => Err(NoMemory),
+            Err(Halt::GivesUp) => self.copied(alloc),
         }
     }
 
-    /// That of all equalities.
-    fn of_all(alloc: Global, equalities: &Equalities) -> Result<Shortener, Halt> {
+    /// That of the equalities, without those at which numbers leave their range.
+    pub(crate) fn of(alloc: Global, equalities: &Equalities) -> Result<Shortener, NoMemory> {
         let mut all = Shortener::new(alloc);
         for equality in equalities.items() {
-            all.add(alloc, equality.form.items())?;
+            all = all.extended(alloc, equality.form.items())?;
         }
         Ok(all)
-    }
-
-    /// That of the equalities, or of none where numbers leave their range.
-    pub(crate) fn of(alloc: Global, equalities: &Equalities) -> Result<Shortener, NoMemory> {
-        in_memory(Shortener::of_all(alloc, equalities), alloc)
-    }
-}
-
-/// What was made, or nothing in the place of what left its range.
-fn in_memory(made: Result<Shortener, Halt>, alloc: Global) -> Result<Shortener, NoMemory> {
-    match made {
-        Ok(made) => Ok(made),
-        Err(Halt::NoMemory) => Err(NoMemory),
-        Err(Halt::GivesUp) => Ok(Shortener::new(alloc)),
     }
 }
