@@ -148,12 +148,15 @@ fn direction_or_point<'a>(
 fn found_by<'a>(
     alloc: Global,
     look: Look<'a>,
-    dict: &mut RangeDict,
+    dict: &mut Option<RangeDict>,
     looks: &mut usize,
 ) -> Result<Found, Halt>
     requires { HasForms (length look.task.rows.now.box) look.task.path.now }
     ensures { IfOk result (IsFound look.entry.task.rows.now look.entry.task.path.now look.entry.task.best) }
 {
+    let Some(dict) = dict else {
+        return Err(Halt::GivesUp);
+    };
     let Look { model, task, thin } = look;
     let vertex = match met(alloc, task, dict)? {
         Met::Empty(line) => return Ok(Found::Empty(line)),
@@ -207,7 +210,7 @@ impl Programs {
     ///
     /// They give up where a number leaves its range, where one of them takes too long, and where no direction is found.
     pub fn find<'a>(
-        &'a mut self,
+        &mut self,
         alloc: Global,
         model: &'a OpenModel<'a>,
         task: Task<'a>,
@@ -217,15 +220,13 @@ impl Programs {
         requires { HasForms (length task.rows.now.box) task.path.now }
         ensures { IfOk result (IsFound task.entry.rows.now task.entry.path.now task.entry.best) }
     {
-        let Some(dict) = &mut self.dict else {
-            return Err(Halt::GivesUp);
-        };
         let thin = Thin {
             frame,
             forms: &self.forms,
             short: &self.short,
             further,
         };
-        found_by(alloc, Look { model, task, thin }, dict, &mut self.looks)
+        let look = Look { model, task, thin };
+        found_by(alloc, look, &mut self.dict, &mut self.looks)
     }
 }
