@@ -1,5 +1,5 @@
 //! Frames of slices.
-ghost use Rattle.std.specs.Prelude.{◌≡◌, ◌≤◌, ◌+◌, ◌<◌, ◌↔◌, ◌+ℤ◌, ◌-ℤ◌, List, [], IfOk, IfSome, IsTrue, OnOk, get_or, length, pos};
+ghost use Rattle.std.specs.Prelude.{◌≡◌, ◌≤◌, ◌+◌, ◌<◌, ◌↔◌, ◌+ℤ◌, ◌-ℤ◌, List, [], IfOk, IsTrue, OnOk, get_or, length};
 ghost use Rattle.farkas_rows.specs.declared.path.Slice.{Slice};
 ghost use Rattle.proof_tree.specs.Trees.{on_slice};
 ghost use Rattle.spaces.specs.Maps.{pulled_constant, pulled_form};

@@ -1,7 +1,7 @@
 //! The move of a node with a frame, in the fast way: each answer of a program is believed only through its check.
 ghost use Rattle.std.specs.Prelude.{◌≡◌, ◌≤◌, ◌<◌, ◌^◌, ◌+◌, ◌≤ℤ◌, pos, length, IfOk, IfSome, IsTrue};
 ghost use Rattle.farkas_rows.specs.Refutes.{HasForms};
-ghost use Rattle.proof_tree.specs.Moves.{widest, ClosesUnder, SplitsUnder, Improves};
+ghost use Rattle.proof_tree.specs.Moves.{widest, SplitsUnder};
 ghost use Rattle.proof_tree.specs.declared.tree.Mark.TheVariants as marks;
 ghost use Rattle.reformulate.specs.Substitutions.{Substitution};
 ghost use Rattle.slice_branch.specs.Framed.{IsFramedMove, IsThinMove};
