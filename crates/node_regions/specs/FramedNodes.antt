@@ -18,7 +18,7 @@ use Rattle.farkas_lift.specs.NodeEqualities.{node_equalities}
 pub record IsFramedNode (model : WholeRows) (work : ReducedRows) (frame : Substitution) (path : List Slice) : Type 0 where
   pub reduced : IsReduced model work
   pub columns : columns_of frame ≡ length work.rows.box
-  pub frame : IsFrame (node_equalities work path) frame
+  pub solutions : IsFrame (node_equalities work path) frame
   pub forms : HasForms (length model.box) path
   pub kept : All (λ slice. IsOverKept model slice.form) path
 

@@ -1,16 +1,17 @@
 -- The rational points of a node, over the columns that presolving keeps and in the coordinates of a frame.
-use Rattle.std.proofs.Common.{◌≡◌, ℕ, zero, suc, ◌+◌, ◌<◌, Bool, true, false, List, [], ◌∷◌, ◌++◌, length, get_or, ℤ, pos, ◌+ℤ◌, ◌-ℤ◌, map, refl, ap, ap₂, sym, subst, ◌∙◌, arith}
+use Rattle.std.proofs.Common.{◌≡◌, ℕ, zero, suc, ◌+◌, ◌<◌, Bool, true, false, List, [], ◌∷◌, ◌++◌, length, get_or, ℤ, pos, neg_ℤ, ◌+ℤ◌, ◌-ℤ◌, map, refl, ap, ap₂, sym, subst, ◌∙◌, arith}
 use Rattle.std.specs.Prelude.{Option, Some, None, IfSome, is_some, unwrap_or, ◌||◌}
 use Rattle.std.specs.List.{All, AllZip}
 use Rattle.std.proofs.lemmas.List.{ext_get_or, get_or_default, length-map}
 use Rattle.std.proofs.lemmas.List.Elements.{All-nil, All-cons, All-head, All-tail, All-append, All-map, All-weaker}
 use Rattle.std.proofs.lemmas.Slice.Zip.{AllZip-long}
+use Rattle.exact_math.specs.IntegerRing.{linear}
 use Rattle.exact_math.specs.Ring.{integers}
 use Rattle.exact_math.specs.RingSolver.{ring, reads}
-use Rattle.exact_math.specs.Rational.{ℚ, whole, ◌+ℚ◌, ◌-ℚ◌, ◌≤ℚ◌}
+use Rattle.exact_math.specs.Rational.{ℚ, whole, ◌+ℚ◌, neg_ℚ, ◌-ℚ◌, ◌≤ℚ◌}
 use Rattle.exact_math.specs.RationalOrder.{le_antisym, le_trans, whole_le}
 use Rattle.exact_math.specs.RationalRing.{rationals, add_zero, whole_add}
-use Rattle.exact_vectors.specs.Vectors.{dot}
+use Rattle.exact_vectors.specs.Vectors.{dot, negate}
 use Rattle.exact_vectors.specs.Matrices.{times_vector}
 use Rattle.whole_rows.specs.declared.bounds.Bounds.{Bounds}
 use Rattle.whole_rows.specs.declared.ends.End.TheVariants.{Least, Greatest}
@@ -171,10 +172,10 @@ pub record IsWorkPoint (work : ReducedRows) (path : List Slice) (cut : Option �
 -- the form over the work columns is its part in the kept columns
 pub work_form-is : (model : WholeRows) (work : ReducedRows) (form : List ℤ) → IsReduced model work → length form ≡ length model.box → work_form work form ≡ kept model.box form
 work_form-is model work form reduced dense =
-    ext_get_or (pos 0) (work_form work form) (kept model.box form) (size ∙ sym (select-length 0 (open_flags model.box) form flags))
+    ext_get_or (pos 0) (work_form work form) (kept model.box form) (size ∙ ap length reduced.column_numbers ∙ sym (select-length 0 (open_flags model.box) form flags))
     (λ j lt.
     let here : j < length work.rows.box = subst (λ (n : ℕ). j < n) (joined-length (λ k. get_or form (get_or work.column_numbers k 0) (pos 0)) (length work.rows.box)) lt in
-    let below = subst (λ (n : ℕ). j < n) count here in
+    let below = subst (λ (n : ℕ). j < n) (count ∙ ap length reduced.column_numbers) here in
     joined-at (λ k. get_or form (get_or work.column_numbers k 0) (pos 0)) (length work.rows.box) j (pos 0) here
     ∙ ap (λ (k : ℕ). get_or form k (pos 0)) (ap (λ (l : List ℕ). get_or l j 0) reduced.column_numbers ∙ positions-at 0 (open_flags model.box) j below ∙ omega arith)
     ∙ sym (select-at 0 (open_flags model.box) form j (pos 0) flags below))
@@ -428,7 +429,7 @@ module _ (work : ReducedRows) (frame : Substitution) (path : List Slice) (cut : 
 
 module _ (model : WholeRows) (work : ReducedRows) (frame : Substitution) (path : List Slice) (cut : Option ℤ) (limits : IsWithinLimits model) (shaped : IsShaped frame) (framed : IsFramedNode model work frame path) where
   over_rationals : IsRationalFrame (node_equalities work path) frame
-  over_rationals = rational_frame (node_equalities work path) frame shaped framed.frame
+  over_rationals = rational_frame (node_equalities work path) frame shaped framed.solutions
 
   -- Each rational point of a node has coordinates in the region.
   pub inward : (x : List ℚ) → IsRationalPoint model path cut x → (y : List ℚ) × (IsInNode frame work cut y × StandsFor model frame y x)
