@@ -439,14 +439,14 @@ module _ (model : WholeRows) (work : ReducedRows) (frame : Substitution) (path :
       let size : length w ≡ columns_of frame = AllZip-long IsIn work.rows.box w at_work.in_box ∙ sym framed.columns in
       let y = rational_coordinates_of frame w in
       let same : rational_point_of frame y ≡ w = over_rationals.onto w (solves_from work path cut w (columns_of frame) size at_work) in
-      (y, region_from work frame path cut shaped y (over_rationals.size w) (subst (λ (v : List ℚ). All (IsMetSide work path cut v) (node_sides work (is_some cut))) (sym same) (sides_from work path cut w at_work)), same)
+      (y, (region_from work frame path cut shaped y (over_rationals.size w) (subst (λ (v : List ℚ). All (IsMetSide work path cut v) (node_sides work (is_some cut))) (sym same) (sides_from work path cut w at_work)), same))
 
   -- Each point of the region stands for one of the node.
   pub outward : (y : List ℚ) → IsInNode frame work cut y → (x : List ℚ) × (IsRationalPoint model path cut x × StandsFor model frame y x)
   outward y there =
       let w = rational_point_of frame y in
       let at_work = point_from work path cut w (columns_of frame) framed.columns (over_rationals.into y there.coordinates) (sides_at work frame path cut shaped y there) in
-      (spread_over model work path cut limits framed.reduced w, model_point model work path cut limits framed.reduced w framed.forms framed.kept at_work, sym (kept_spread model work path cut limits framed.reduced w at_work))
+      (spread_over model work path cut limits framed.reduced w, (model_point model work path cut limits framed.reduced w framed.forms framed.kept at_work, sym (kept_spread model work path cut limits framed.reduced w at_work)))
 
   -- A form has the same values at both, up to a constant.
   pub values : (x y : List ℚ) (form : List ℤ) → IsRationalPoint model path cut x → StandsFor model frame y x → length form ≡ length model.box → form_value form x ≡ form_value (pulled_form frame.to_work (work_form work form)) y +ℚ whole (pulled_constant frame.to_work (work_form work form) +ℤ removed_part model.box form)
