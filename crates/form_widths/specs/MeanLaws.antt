@@ -33,7 +33,7 @@ length-total n inequalities (y ∷ points) h =
     Matrices.length-add rationals n y (total n points) (All-head (IsSolution n inequalities) y points h).0 (length-total n inequalities points (All-tail (IsSolution n inequalities) y points h))
 
 -- so has the mean
-length-mean : (n : ℕ) (inequalities : List Inequality) (points : List (List ℚ)) → All (IsSolution n inequalities) points → length (mean n points) ≡ n
+pub length-mean : (n : ℕ) (inequalities : List Inequality) (points : List (List ℚ)) → All (IsSolution n inequalities) points → length (mean n points) ≡ n
 length-mean n inequalities points h = Matrices.length-scale rationals (whole (pos 1) /ℚ whole (pos (length points))) (total n points) ∙ length-total n inequalities points h
 
 -- the sum of the slacks

@@ -397,11 +397,11 @@ module _ (work : ReducedRows) (path : List Slice) (cut : Option ℤ) (w : List �
 -- ---- the region
 
 -- inequalities as rows and limits
-rows_met : (y : List ℚ) (inequalities : List Inequality) → All (IsMetAt y) inequalities → AllZip ◌≤ℚ◌ (times_vector rationals (map (λ (inequality : Inequality). wholes inequality.factors) inequalities) y) (map (λ (inequality : Inequality). whole inequality.limit) inequalities)
+pub rows_met : (y : List ℚ) (inequalities : List Inequality) → All (IsMetAt y) inequalities → AllZip ◌≤ℚ◌ (times_vector rationals (map (λ (inequality : Inequality). wholes inequality.factors) inequalities) y) (map (λ (inequality : Inequality). whole inequality.limit) inequalities)
 rows_met y [] h = tt
 rows_met y (i ∷ inequalities) h = (All-head (IsMetAt y) i inequalities h, rows_met y inequalities (All-tail (IsMetAt y) i inequalities h))
 
-met_by_rows : (y : List ℚ) (inequalities : List Inequality) → AllZip ◌≤ℚ◌ (times_vector rationals (map (λ (inequality : Inequality). wholes inequality.factors) inequalities) y) (map (λ (inequality : Inequality). whole inequality.limit) inequalities) → All (IsMetAt y) inequalities
+pub met_by_rows : (y : List ℚ) (inequalities : List Inequality) → AllZip ◌≤ℚ◌ (times_vector rationals (map (λ (inequality : Inequality). wholes inequality.factors) inequalities) y) (map (λ (inequality : Inequality). whole inequality.limit) inequalities) → All (IsMetAt y) inequalities
 met_by_rows y [] h = All-nil (IsMetAt y)
 met_by_rows y (i ∷ inequalities) h = All-cons (IsMetAt y) i inequalities h.0 (met_by_rows y inequalities h.1)
 

@@ -4,11 +4,13 @@
 //! are checked points of the node, and the lines refute the ends of the form.
 #![tactic(auto)]
 
+mod columns;
 mod direction;
 mod node;
 mod point;
 mod room;
 mod side;
+mod width;
 
 pub use direction::is_direction;
 pub use node::Node;

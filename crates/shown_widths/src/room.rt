@@ -61,6 +61,20 @@ pub(crate) fn factor_in(dimension: usize) -> i128
     }
 }
 
+/// A width in parts of a unit, rounded up; none where it is negative or leaves 128 bits.
+pub(crate) fn units_of(width: &Frac) -> Option<i128>
+    ensures not_negative { IfSome result (λ units. pos 0 ≤ℤ units) }
+    ensures enough { IfSome result (λ units. (whole (pos width_parts) *ℚ width.now) ≤ℚ whole units) }
+{
+    match Frac::whole(WIDTH_PARTS).mul(width) {
+        Ok(parts) => {
+            let units = parts.ceil();
+            if units < 0 { None } else { Some(units) }
+        }
+        Err(_) => None,
+    }
+}
+
 /// So many times a product of two numbers, where all numbers on the way fit.
 fn product(first: i128, second: i128, third: i128) -> Option<i128>
     ensures { IfSome result (λ value. value ≡ first *ℤ (second *ℤ third)) }
