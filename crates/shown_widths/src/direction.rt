@@ -55,19 +55,21 @@ fn is_thin(
     requires some { 0 < length points.now }
     ensures { IfOk result (λ shown. IsTrue shown → IsThinBy node.entry.frame.now node.entry.work.now node.entry.cut width.now points.now) }
 {
-    if !are_wide(node.frame.to_work().lines(), width, points) {
+    let wide = are_wide(node.frame.to_work().lines(), width, points);
+    if !wide {
         return Ok(false);
     }
     let Some(units) = units_of(width) else {
         return Ok(false);
     };
-    let factor = (1 << 16) * factor_in(node.frame.dimension());
+    let factor = factor_in(node.frame.dimension());
     let trial = Trial {
         width: Width { units, factor },
         columns: node.work.columns(),
         points,
     };
-    all_leave(alloc, node, trial)
+    let shown = all_leave(alloc, node, trial)?;
+    Ok(shown)
 }
 
 /// Whether the points and the lines of a split's two ends show that its form is a direction of the node.
@@ -99,5 +101,6 @@ pub fn is_direction<'a>(
         return Ok(false);
     };
     let at_work = work_points(alloc, node.work, points)?;
-    is_thin(alloc, node, &width, &at_work)
+    let shown = is_thin(alloc, node, &width, &at_work)?;
+    Ok(shown)
 }

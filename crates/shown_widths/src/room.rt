@@ -7,7 +7,7 @@ ghost use Rattle.farkas_lift.specs.NodeSides.{column_sides, cut_side, row_sides}
 ghost use Rattle.farkas_lift.specs.NodeSystem.{cut_of};
 ghost use Rattle.node_point.specs.NodePoints.{Fractions};
 ghost use Rattle.node_point.specs.RationalPoints.{coordinates};
-ghost use Rattle.reformulate.specs.Substitutions.{columns_of};
+ghost use Rattle.reformulate.specs.Substitutions.{columns_of, IsSubstitution};
 ghost use Rattle.shown_widths.specs.Points.{bounded, form_of, IsLeftOver};
 ghost use Rattle.shown_widths.specs.Steps.{parts, width_parts, AllLeave, BothLeave, IsFactorIn, IsLightAlong, IsWideEnough, SideLeaves};
 
@@ -42,22 +42,22 @@ pub(crate) struct Trial<'a> {
     pub(crate) points: &'a [WorkPoint],
 }
 
-/// A power of four that is at most 4^(dimension-1).
+/// The parts of a unit in which a width is counted, times a power of four that is at most 4^(dimension-1).
 pub(crate) fn factor_in(dimension: usize) -> i128
     ensures { IsFactorIn dimension result }
 {
     if dimension > 16 {
-        1 << 32
+        1 << 48
     } else if dimension > 8 {
-        1 << 16
+        1 << 32
     } else if dimension > 4 {
-        1 << 8
+        1 << 24
     } else if dimension > 2 {
-        1 << 4
+        1 << 20
     } else if dimension > 1 {
-        1 << 2
+        1 << 18
     } else {
-        1
+        1 << 16
     }
 }
 
@@ -170,7 +170,8 @@ fn reach_along(
     factors: &[i128],
 ) -> Result<Option<i128>, NoMemory>
     requires { length factors.now ≡ columns_of frame.now }
-    ensures { IfOk result (λ found. IfSome found (λ reach. IsLightAlong reach frame.now.to_work factors.now)) }
+    ensures light { IfOk result (λ found. IfSome found (λ reach. IsLightAlong reach frame.now.to_work factors.now)) }
+    ensures shaped { IsSubstitution frame.now }
 {
     let form = Form::of(factors.to_vec(alloc)?);
     match frame.to_work().pull_back(alloc, &form) {
@@ -211,7 +212,8 @@ fn rows_leave(alloc: Global, node: Node<'_>, trial: Trial<'_>) -> Result<bool, N
     ensures { IfOk result (λ shown. IsTrue shown → All (SideLeaves trial.entry.width node.entry.frame.now.to_work (map coordinates trial.entry.points.now) node.entry.work.now (cut_of node.entry.cut)) (joined (row_sides node.entry.work.now) (length node.entry.work.now.rows.rows))) }
 {
     for i in 0..node.work.rows() {
-        if !row_leaves(alloc, node, trial, i)? {
+        let shown = row_leaves(alloc, node, trial, i)?;
+        if !shown {
             return Ok(false);
         }
     }
@@ -240,7 +242,8 @@ fn columns_leave(node: Node<'_>, trial: Trial<'_>) -> bool
     ensures { IsTrue result → All (SideLeaves trial.entry.width node.entry.frame.now.to_work (map coordinates trial.entry.points.now) node.entry.work.now (cut_of node.entry.cut)) (joined column_sides (length node.entry.work.now.rows.box)) }
 {
     for j in 0..trial.columns {
-        if !column_leaves(node, trial, j) {
+        let shown = column_leaves(node, trial, j);
+        if !shown {
             return false;
         }
     }
