@@ -11,7 +11,7 @@ ghost use Rattle.node_point.specs.RationalPoints.{IsRationalPoint};
 ghost use Rattle.proof_tree.specs.Moves.{SplitsUnder};
 ghost use Rattle.reformulate.specs.Substitutions.{columns_of, dimension_of};
 ghost use Rattle.farkas_lift.specs.NodeEqualities.{work_form};
-ghost use Rattle.node_regions.specs.FramedNodes.{IsFramedNode};
+ghost use Rattle.node_regions.specs.RegionPoints.{IsFramedNode};
 ghost use Rattle.node_regions.specs.NodeRegions.{IsInNode};
 ghost use Rattle.shown_widths.specs.Thin.{IsThinBy};
 
@@ -88,13 +88,17 @@ pub fn is_direction<'a>(
     requires points { All (IsNodePoint node.model.now node.path.now node.cut) points.now }
     ensures { IfOk result (λ shown. IsTrue shown → IsDirection (IsInNode node.entry.frame.now node.entry.work.now node.entry.cut) (dimension_of node.entry.frame.now) (rows_in node.entry.frame.now.to_work.lines) (pulled_form node.entry.frame.now.to_work (work_form node.entry.work.now cut.now.form))) }
 {
+    let _columns = node.model.columns();
     if node.frame.dimension() == 0 || points.is_empty() {
         return Ok(false);
     }
     let Some(form) = kernel_form(alloc, node, cut.form.items())? else {
         return Ok(false);
     };
-    if divisor_of(form.items()) != Some(1) {
+    let Some(divisor) = divisor_of(form.items()) else {
+        return Ok(false);
+    };
+    if divisor != 1 {
         return Ok(false);
     }
     let Some(width) = width_of(node, cut) else {

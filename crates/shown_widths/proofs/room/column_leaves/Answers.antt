@@ -15,6 +15,8 @@ pub returns-in-Some : goal.returns-in-Some
 returns-in-Some c = λ true.
     let t = c.args.node.frame.now.to_work in
     let reach_fits : FitsSigned w128 c.in-Some.reach = search rules in
+    let low_fits : FitsSigned w128 c.box_low.result = search rules in
+    let high_fits : FitsSigned w128 c.box_high.result = search rules in
     let both = rw (c.requires.width, c.box_low.ensures, c.box_high.ensures) at (simp to_z-of_z at (c.both_leave.ensures true)) in
     let line : c.row.result.now ≡ row_at t.lines c.args.j = c.row.ensures.value ∙ ap (λ (l : Table ℤ). row_at l c.args.j) (c.lines.ensures.value ∙ ap (λ (m : AffineMap). m.lines) c.to_work.ensures.value) in
     sides_of_column c.args.trial.width c.in-Some.reach t (map coordinates c.args.trial.points.now) c.args.node.work.now (cut_of c.args.node.cut) (HasWidth-rows_in t.lines c.to_work.ensures.shaped.shaped.size_lines) c.args.j c.requires.there c.requires.columns
