@@ -1,5 +1,0 @@
-mod ColumnLaws
-mod DirectionLaws
-mod ShownLaws
-mod SideLaws
-mod SlackLaws
