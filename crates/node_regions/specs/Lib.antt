@@ -1,0 +1,4 @@
+pub mod KeptValues
+pub mod NodePointLaws
+pub mod NodeRegions
+pub mod RegionPoints
