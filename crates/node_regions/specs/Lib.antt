@@ -1,2 +1,4 @@
 pub mod NodeFrames
 pub mod NodeRegions
+pub mod PlacedPoints
+pub mod PlacedPointLaws

@@ -3,3 +3,7 @@
 //! The crate is definitions (`specs/`): a node's frames over the columns that presolving keeps, and the rational points of its other
 //! inequalities in their coordinates.
 #![tactic(auto)]
+
+mod laws;
+
+pub use laws::reduced_points;
