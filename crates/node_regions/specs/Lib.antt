@@ -1,4 +1,9 @@
 pub mod NodeFrames
 pub mod NodeRegions
+pub mod FramedNodes
 pub mod PlacedPoints
 pub mod PlacedPointLaws
+pub mod KeptFormLaws
+pub mod MetNodes
+pub mod MetNodeLaws
+pub mod CoordinateLaws

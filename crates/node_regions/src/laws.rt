@@ -1,14 +1,19 @@
 //! The laws of the crate. The functions here do nothing; their contracts carry the laws.
 ghost use Rattle.std.specs.Prelude.{◌≡◌, ℤ, List, Option, All, length};
-ghost use Rattle.exact_math.specs.Rational.{ℚ};
-ghost use Rattle.whole_rows.specs.declared.bounds.Bounds.{Bounds};
+ghost use Rattle.exact_math.specs.Rational.{ℚ, whole, ◌+ℚ◌};
 ghost use Rattle.whole_rows.specs.WholeRows.{WholeRows, IsWithinLimits};
 ghost use Rattle.farkas_rows.specs.declared.path.Slice.{Slice};
 ghost use Rattle.farkas_rows.specs.Refutes.{HasForms};
-ghost use Rattle.node_point.specs.RationalPoints.{IsRationalPoint};
+ghost use Rattle.node_point.specs.RationalPoints.{form_value, IsRationalPoint};
+ghost use Rattle.spaces.specs.Maps.{pulled_constant, pulled_form};
+ghost use Rattle.norm_gauge.specs.Widths.{HasBound};
+ghost use Rattle.rational_frames.specs.RationalFrames.{rational_coordinates_of, rational_point_of};
 ghost use Rattle.presolve_map.specs.Columns.{kept};
 ghost use Rattle.presolve_map.specs.ReducedRows.{ReducedRows, IsReduced};
+ghost use Rattle.farkas_lift.specs.NodeEqualities.{work_form};
+ghost use Rattle.node_regions.specs.FramedNodes.{FramedNode};
 ghost use Rattle.node_regions.specs.NodeFrames.{IsKeptForm};
+ghost use Rattle.node_regions.specs.NodeRegions.{IsInNode, node_polytope};
 ghost use Rattle.node_regions.specs.PlacedPoints.{IsReducedPoint, placed_point};
 
 /// The rational points of a model are those of its reduced rows, placed among all columns.
@@ -20,4 +25,19 @@ pub fn reduced_points()
         → HasForms (length rows.box) path → All (λ slice. IsKeptForm rows.box slice.form) path → IsRationalPoint rows path cut x
         → IsReducedPoint rows.box work path cut (kept rows.box x) }
     ensures same { (rows : WholeRows) (path : List Slice) (cut : Option ℤ) (x : List ℚ) → IsRationalPoint rows path cut x → placed_point rows.box (kept rows.box x) ≡ x }
+{}
+
+/// The rational points of a node and their coordinates in a frame of it are those of its region, which is bounded. A form over all
+/// columns that is 0 in the removed ones has the values of a form on the coordinates, and a constant more.
+pub fn node_coordinates()
+    ensures point { (node : FramedNode) (y : List ℚ) → IsInNode node.frame node.work node.cut y
+        → IsRationalPoint node.model node.path node.cut (placed_point node.model.box (rational_point_of node.frame y)) }
+    ensures coordinates { (node : FramedNode) (x : List ℚ) → IsRationalPoint node.model node.path node.cut x
+        → IsInNode node.frame node.work node.cut (rational_coordinates_of node.frame (kept node.model.box x)) }
+    ensures again { (node : FramedNode) (x : List ℚ) → IsRationalPoint node.model node.path node.cut x
+        → placed_point node.model.box (rational_point_of node.frame (rational_coordinates_of node.frame (kept node.model.box x))) ≡ x }
+    ensures value { (node : FramedNode) (form : List ℤ) (y : List ℚ) → length form ≡ length node.model.box → IsKeptForm node.model.box form
+        → IsInNode node.frame node.work node.cut y → form_value form (placed_point node.model.box (rational_point_of node.frame y))
+        ≡ form_value (pulled_form node.frame.to_work (work_form node.work form)) y +ℚ whole (pulled_constant node.frame.to_work (work_form node.work form)) }
+    ensures bounded { (node : FramedNode) → HasBound (node_polytope node.frame node.work node.cut) }
 {}

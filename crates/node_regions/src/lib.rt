@@ -1,9 +1,10 @@
 //! The region of a node in the coordinates of a frame, and the frames of a node.
 //!
-//! The crate is definitions (`specs/`): a node's frames over the columns that presolving keeps, and the rational points of its other
-//! inequalities in their coordinates.
+//! Hardly any code: the crate is definitions and laws (`specs/`): a node's frames over the columns that presolving keeps, the
+//! rational points of its other inequalities in their coordinates, and how these are the node's rational points. The functions
+//! here do nothing; their contracts carry the laws.
 #![tactic(auto)]
 
 mod laws;
 
-pub use laws::reduced_points;
+pub use laws::{node_coordinates, reduced_points};
