@@ -1,0 +1,2 @@
+pub mod LiftedForms
+pub mod NodeFacts

@@ -22,6 +22,7 @@ pub record IsRegion (frame : Substitution) (work : ReducedRows) (cut : Option �
   pub polytope : polytope_of system.rows system.limits ≡ node_polytope frame work cut
   pub as_many_limits : length system.limits ≡ system.rows.rows
   pub few : system.rows.rows ≤ 1025
+  pub small : system.rows.width ≤ 256
   pub narrow_rows : All IsNarrow system.rows.items
   pub narrow_limits : All IsNarrow system.limits
   pub narrow_lines : All IsNarrow frame.to_work.lines.items

@@ -37,10 +37,12 @@ pub(crate) fn region<'a>(alloc: Global, node: &Node<'a>) -> Result<System, Halt>
     ensures region { IfOk result (IsRegion node.now.frame.now node.now.work.now node.now.cut) }
     ensures halt { IfErr result (HaltsSo node.now.model.now node.now.work.now node.now.frame.now node.now.path.now node.now.cut) }
 {
+    let coordinates = node.frame.dimension();
+    let _columns = node.model.columns();
     match kernel_system(alloc, node.frame, node.work, node.cut) {
         Ok(system) => Ok(system),
         Err(MapStop::Wide) => {
-            let zero = zero_form(alloc, node.frame.dimension())?;
+            let zero = zero_form(alloc, coordinates)?;
             Err(Halt::Excused(Excuse::WideMap(zero)))
         }
         Err(MapStop::NoMemory) => Err(Halt::NoMemory),

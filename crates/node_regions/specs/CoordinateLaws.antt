@@ -182,14 +182,14 @@ module _ (model : WholeRows) (work : ReducedRows) (frame : Substitution) (path :
 
   -- So each has the other's values.
   pub coordinates_match : (form : List ℤ) → length form ≡ length model.box → IsKeptForm model.box form → HasMatches (IsInNode frame work cut) (pulled_form frame.to_work (work_form work form)) (IsRationalPoint model path cut) form (pulled_constant frame.to_work (work_form work form))
-  coordinates_match form long keeps y there = (placed_point model.box (rational_point_of frame y), point_of_coordinates y there, value_at_coordinates form y long keeps there)
+  coordinates_match form long keeps y there = (placed_point model.box (rational_point_of frame y), (point_of_coordinates y there, value_at_coordinates form y long keeps there))
 
   pub points_match : (form : List ℤ) → length form ≡ length model.box → IsKeptForm model.box form → HasMatches (IsRationalPoint model path cut) form (IsInNode frame work cut) (pulled_form frame.to_work (work_form work form)) (neg_ℤ (pulled_constant frame.to_work (work_form work form)))
   points_match form long keeps x point =
       let y = rational_coordinates_of frame (kept model.box x) in
       let there = coordinates_of_point x point in
-      (y, there, turned (form_value form x) (form_value (pulled_form frame.to_work (work_form work form)) y) (pulled_constant frame.to_work (work_form work form))
-        (ap (form_value form) (sym (point-again x point)) ∙ value_at_coordinates form y long keeps there))
+      (y, (there, turned (form_value form x) (form_value (pulled_form frame.to_work (work_form work form)) y) (pulled_constant frame.to_work (work_form work form))
+        (ap (form_value form) (sym (point-again x point)) ∙ value_at_coordinates form y long keeps there)))
     where
       turned : (v u : ℚ) (c : ℤ) → v ≡ u +ℚ whole c → u ≡ v +ℚ whole (neg_ℤ c)
       turned v u c e = less u (whole c) ∙ ap₂ (λ (p q : ℚ). p +ℚ q) (sym e) (sym (whole_neg c))

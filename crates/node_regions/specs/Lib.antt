@@ -7,3 +7,4 @@ pub mod KeptFormLaws
 pub mod MetNodes
 pub mod MetNodeLaws
 pub mod CoordinateLaws
+pub mod SystemLaws

@@ -1,5 +1,5 @@
 -- The values that meet the equalities and the other inequalities of a node are the points of its reduced rows.
-use Rattle.std.proofs.Common.{◌≡◌, ◌≢◌, ◌⊎◌, inl, inr, ℕ, zero, suc, ◌<◌, Bool, true, false, List, [], ◌∷◌, ◌++◌, length, map, get_or, ℤ, pos, neg_ℤ, ◌-ℤ◌, refl, sym, ap, ap₂, subst, ◌∙◌, arith, All}
+use Rattle.std.proofs.Common.{◌≡◌, ⊎_elim, ℕ, zero, suc, ◌<◌, Bool, true, false, List, [], ◌∷◌, ◌++◌, length, map, get_or, ℤ, pos, neg_ℤ, ◌-ℤ◌, refl, sym, ap, ap₂, subst, ◌∙◌, arith, All}
 use Rattle.std.specs.Prelude.{Option, Some, None, IfSome, is_some, unwrap_or, if◌then◌else◌}
 use Rattle.std.specs.List.{AllZip}
 use Rattle.std.specs.Ordering.{int_eq}
@@ -50,11 +50,9 @@ back_part P (x ∷ xs) ys h = back_part P xs ys (All-tail P x (xs ++ ys) h)
 
 pub joined_part : {A : Type 0} (P : A → Type 0) (part : ℕ → List A) (count i : ℕ) → i < count → All P (joined part count) → All P (part i)
 joined_part P part zero i lt h = absurd (omega arith)
-joined_part P part (suc count) i lt h = by_place (cases_eq i count)
-  where
-    by_place : (i ≡ count) ⊎ (i ≢ count) → All P (part i)
-    by_place (inl same) = subst (λ (j : ℕ). All P (part j)) (sym same) (back_part P (joined part count) (part count) h)
-    by_place (inr apart) = joined_part P part count i (omega (arith, apart)) (front_part P (joined part count) (part count) h)
+joined_part P part (suc count) i lt h =
+    ⊎_elim (λ same. subst (λ (j : ℕ). All P (part j)) (sym same) (back_part P (joined part count) (part count) h))
+    (λ apart. joined_part P part count i (omega (arith, apart)) (front_part P (joined part count) (part count) h)) (cases_eq i count)
 
 -- ---- inequalities
 
@@ -75,7 +73,7 @@ least-back form side w h =
     turned : (s v : ℚ) → neg_ℚ s -ℚ neg_ℚ v ≡ v -ℚ s
     turned s v = ring rationals (s ∷ v ∷ []) (search reads depth 30) (search reads depth 30) refl
 
-no_bounds : Bounds
+abbrev no_bounds : Bounds
 no_bounds = record { low = pos 0; high = pos 0 }
 
 -- a box by its places
@@ -185,7 +183,7 @@ path-equalities model work w (s ∷ path) reduced forms h =
     (ap (λ (f : List ℤ). form_value f w) (work_form-kept model work s.form reduced (All-head (λ (slice : Slice). length slice.form ≡ length model.box) s path forms)) ∙ All-head (λ (slice : Slice). form_value (kept model.box slice.form) w ≡ whole slice.beta) s path h)
     (path-equalities model work w path reduced (All-tail (λ (slice : Slice). length slice.form ≡ length model.box) s path forms) (All-tail (λ (slice : Slice). form_value (kept model.box slice.form) w ≡ whole slice.beta) s path h))
 
-no_row : WholeRow
+abbrev no_row : WholeRow
 no_row = record { factors = []; low = None; high = None }
 
 -- Values that meet the node are a point of the reduced rows.

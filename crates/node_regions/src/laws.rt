@@ -1,19 +1,25 @@
 //! The laws of the crate. The functions here do nothing; their contracts carry the laws.
-ghost use Rattle.std.specs.Prelude.{◌≡◌, ℤ, List, Option, All, length};
+ghost use Rattle.std.specs.Prelude.{◌≡◌, ◌≤◌, Bool, ℤ, List, Option, All, length};
 ghost use Rattle.exact_math.specs.Rational.{ℚ, whole, ◌+ℚ◌};
 ghost use Rattle.whole_rows.specs.WholeRows.{WholeRows, IsWithinLimits};
 ghost use Rattle.farkas_rows.specs.declared.path.Slice.{Slice};
 ghost use Rattle.farkas_rows.specs.Refutes.{HasForms};
 ghost use Rattle.node_point.specs.RationalPoints.{form_value, IsRationalPoint};
 ghost use Rattle.spaces.specs.Maps.{pulled_constant, pulled_form};
-ghost use Rattle.norm_gauge.specs.Widths.{HasBound};
+ghost use Rattle.frac128.specs.Range.{IsNarrow};
+ghost use Rattle.farkas_rows.specs.Inequalities.{Inequality};
+ghost use Rattle.lp_dict.specs.declared.system.System.{System};
+ghost use Rattle.norm_gauge.specs.Widths.{HasBound, polytope_of};
+ghost use Rattle.reformulate.specs.Substitutions.{IsShaped, Substitution, columns_of, dimension_of};
 ghost use Rattle.rational_frames.specs.RationalFrames.{rational_coordinates_of, rational_point_of};
 ghost use Rattle.presolve_map.specs.Columns.{kept};
 ghost use Rattle.presolve_map.specs.ReducedRows.{ReducedRows, IsReduced};
 ghost use Rattle.farkas_lift.specs.NodeEqualities.{work_form};
+ghost use Rattle.farkas_lift.specs.NodeSides.{node_sides};
+ghost use Rattle.farkas_lift.specs.NodeSystem.{IsSystemOf, SystemStays};
 ghost use Rattle.node_regions.specs.FramedNodes.{FramedNode};
 ghost use Rattle.node_regions.specs.NodeFrames.{IsKeptForm};
-ghost use Rattle.node_regions.specs.NodeRegions.{IsInNode, node_polytope};
+ghost use Rattle.node_regions.specs.NodeRegions.{IsInNode, node_polytope, polytope_in};
 ghost use Rattle.node_regions.specs.PlacedPoints.{IsReducedPoint, placed_point};
 
 /// The rational points of a model are those of its reduced rows, placed among all columns.
@@ -40,4 +46,13 @@ pub fn node_coordinates()
         → IsInNode node.frame node.work node.cut y → form_value form (placed_point node.model.box (rational_point_of node.frame y))
         ≡ form_value (pulled_form node.frame.to_work (work_form node.work form)) y +ℚ whole (pulled_constant node.frame.to_work (work_form node.work form)) }
     ensures bounded { (node : FramedNode) → HasBound (node_polytope node.frame node.work node.cut) }
+{}
+
+/// The system of a node is its region, it has few inequalities, and where its numbers stay in range no entry of K is -2^127.
+pub fn node_systems()
+    ensures polytope { (inequalities : List Inequality) (frame : Substitution) (system : System) → IsSystemOf (dimension_of frame) inequalities system
+        → polytope_of system.rows system.limits ≡ polytope_in inequalities frame }
+    ensures count { (model : WholeRows) (work : ReducedRows) (has_cut : Bool) → IsWithinLimits model → IsReduced model work → length (node_sides work has_cut) ≤ 1025 }
+    ensures lines { (work : ReducedRows) (frame : Substitution) (cut : Option ℤ) → IsShaped frame → columns_of frame ≡ length work.rows.box
+        → SystemStays frame work cut → All IsNarrow frame.to_work.lines.items }
 {}
