@@ -72,21 +72,19 @@ items-narrow width zero (z ∷ items) e h = absurd (omega arith)
 items-narrow width (suc count) items e h =
     subst (All IsNarrow) (take-append-drop width items)
     (All-append IsNarrow (take width items) (drop width items) (All-head (λ (row : List ℤ). All IsNarrow row) (take width items) (rows_of width count (drop width items)) h)
-    (items-narrow width count (drop width items) (omega (arith, length-drop width items, e, mul-suc' count width)) (All-tail (λ (row : List ℤ). All IsNarrow row) (take width items) (rows_of width count (drop width items)) h)))
-  where
-    mul-suc' : (c w : ℕ) → suc c * w ≡ w + c * w
-    mul-suc' c w = refl
+    (items-narrow width count (drop width items) (omega (arith, length-drop width items, e)) (All-tail (λ (row : List ℤ). All IsNarrow row) (take width items) (rows_of width count (drop width items)) h)))
 
 -- a line of a map is the form of its column pulled back
-pulled-unit : (map : AffineMap) (j k : ℕ) → length map.lines.items ≡ map.lines.rows * map.lines.width → j < map.lines.rows → get_or (pulled_form map (unit map.lines.rows j)) k (pos 0) ≡ get_or (get_or (rows_in map.lines) j []) k (pos 0)
-pulled-unit map j k size h =
-    let many : length (column integers (rows_in map.lines) k) ≡ map.lines.rows = column-long (rows_in map.lines) k ∙ length-rows_in map.lines in
-    Matrix.combination-at integers map.lines.width (unit map.lines.rows j) (rows_in map.lines) k (HasWidth-rows_in map.lines size)
-    ∙ dot-unit map.lines.rows j (column integers (rows_in map.lines) k) many h
-    ∙ Matrix.column-at integers (rows_in map.lines) k j [] (pos 0) (omega (arith, length-rows_in map.lines))
+pulled-unit : (placing : AffineMap) (j k : ℕ) → length placing.lines.items ≡ placing.lines.rows * placing.lines.width → j < placing.lines.rows → get_or (pulled_form placing (unit placing.lines.rows j)) k (pos 0) ≡ get_or (get_or (rows_in placing.lines) j []) k (pos 0)
+pulled-unit placing j k size h =
+    let many : length (column integers (rows_in placing.lines) k) ≡ placing.lines.rows = column-long (rows_in placing.lines) k ∙ length-rows_in placing.lines in
+    Matrix.combination-at integers placing.lines.width (unit placing.lines.rows j) (rows_in placing.lines) k (HasWidth-rows_in placing.lines size)
+    ∙ dot-unit placing.lines.rows j (column integers (rows_in placing.lines) k) many h
+    ∙ Matrix.column-at integers (rows_in placing.lines) k j [] (pos 0) (omega (arith, length-rows_in placing.lines))
   where
     column-long : (rows : List (List ℤ)) (k : ℕ) → length (column integers rows k) ≡ length rows
-    column-long rows k = length-map rows (λ (row : List ℤ). get_or row k (pos 0))
+    column-long [] k = refl
+    column-long (row ∷ rows) k = ap suc (column-long rows k)
 
 -- the numbers of one inequality stay in range
 abbrev SideIsInRange : ReducedRows → Substitution → Option ℤ → NodeSide → Type 0
