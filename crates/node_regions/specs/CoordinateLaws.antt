@@ -1,5 +1,5 @@
 -- The rational points of a node are those of its region in the coordinates of a frame.
-use Rattle.std.proofs.Common.{◌≡◌, ℕ, ◌+◌, ◌≤◌, ◌<◌, List, [], ◌∷◌, length, map, get_or, ℤ, pos, neg_ℤ, nat_abs, ◌+ℤ◌, ◌-ℤ◌, ◌≤ℤ◌, refl, sym, ap, ap₂, subst, ◌∙◌, arith, All}
+use Rattle.std.proofs.Common.{◌≡◌, ℕ, ◌+◌, ◌≤◌, List, [], ◌∷◌, length, map, ℤ, pos, neg_ℤ, nat_abs, ◌-ℤ◌, ◌≤ℤ◌, refl, sym, ap, ap₂, subst, ◌∙◌, arith, All}
 use Rattle.std.specs.Prelude.{Option, is_some}
 use Rattle.std.specs.List.{AllZip}
 use Rattle.std.proofs.lemmas.List.{length-map}
@@ -8,7 +8,7 @@ use Rattle.exact_math.specs.IntegerRing.{linear}
 use Rattle.exact_math.specs.Ring.{integers}
 use Rattle.exact_math.specs.Rational.{ℚ, whole, neg_ℚ, ◌+ℚ◌, ◌-ℚ◌, ◌≤ℚ◌}
 use Rattle.exact_math.specs.RationalOrder.{le_trans, whole_le}
-use Rattle.exact_math.specs.RationalRing.{rationals, whole_add}
+use Rattle.exact_math.specs.RationalRing.{rationals}
 use Rattle.exact_math.specs.RingSolver.{ring, reads}
 use Rattle.exact_vectors.specs.Vectors.{add, dot, negate}
 use Rattle.exact_vectors.specs.Matrices.{HasWidth, times_vector}
@@ -44,8 +44,8 @@ use Rattle.node_regions.specs.KeptFormLaws.{work_form-kept}
 use Rattle.node_regions.specs.MetNodeLaws.{met_is_reduced, reduced_is_met}
 use Rattle.node_regions.specs.MetNodes.{MeetsNode, MeetsSide}
 use Rattle.node_regions.specs.NodeFrames.{IsKeptForm}
-use Rattle.node_regions.specs.NodeRegions.{IsInNode, node_polytope, polytope_in}
-use Rattle.node_regions.specs.PlacedPointLaws.{AreSame, greatest_sum_over, kept-same, least_sum_over, placed-kept, placed-same, point_is_kept, reduced_point_is_placed, value-same}
+use Rattle.node_regions.specs.NodeRegions.{IsInNode, node_polytope}
+use Rattle.node_regions.specs.PlacedPointLaws.{greatest_sum_over, least_sum_over, placed-kept, placed-same, point_is_kept, reduced_point_is_placed, value-same}
 use Rattle.node_regions.specs.PlacedPoints.{IsInBox, IsReducedPoint, placed_point}
 
 -- ---- inequalities as rows and limits

@@ -1,11 +1,9 @@
 -- The values that meet the equalities and the other inequalities of a node are the points of its reduced rows.
 use Rattle.std.proofs.Common.{◌≡◌, ⊎_elim, ℕ, zero, suc, ◌<◌, Bool, true, false, List, [], ◌∷◌, ◌++◌, length, map, get_or, ℤ, pos, neg_ℤ, ◌-ℤ◌, refl, sym, ap, ap₂, subst, ◌∙◌, arith, All}
 use Rattle.std.specs.Prelude.{Option, Some, None, IfSome, is_some, unwrap_or, if◌then◌else◌}
-use Rattle.std.specs.List.{AllZip}
 use Rattle.std.specs.Ordering.{int_eq}
 use Rattle.std.proofs.lemmas.Bool.{cases_eq}
 use Rattle.std.proofs.lemmas.Bool.Decides.{Decides-int_eq}
-use Rattle.std.proofs.lemmas.List.{length-map}
 use Rattle.std.proofs.lemmas.List.Elements.{All-append, All-cons, All-from_get_or, All-get_or, All-head, All-nil, All-tail}
 use Rattle.exact_math.specs.Ring.{integers}
 use Rattle.exact_math.specs.Rational.{ℚ, whole, neg_ℚ, ◌-ℚ◌, ◌≤ℚ◌}
@@ -15,7 +13,7 @@ use Rattle.exact_math.specs.RingSolver.{ring, reads}
 use Rattle.exact_vectors.specs.Vectors.{negate}
 use Rattle.whole_vectors.specs.WholeVectorLaws.{whole_neg}
 use Rattle.whole_rows.specs.declared.bounds.Bounds.{Bounds}
-use Rattle.whole_rows.specs.WholeRows.{WholeRow, WholeRows, row_at, bounds_at, IsWithinLimits}
+use Rattle.whole_rows.specs.WholeRows.{WholeRow, WholeRows, row_at, bounds_at}
 use Rattle.farkas_rows.specs.declared.path.Slice.{Slice}
 use Rattle.farkas_rows.specs.Inequalities.{at_least, at_most, unit}
 use Rattle.farkas_rows.specs.Refutes.{HasForms}
@@ -23,13 +21,12 @@ use Rattle.node_point.specs.RationalPoints.{form_value, IsWithin}
 use Rattle.form_widths.specs.FormLaws.{form_value-negate, form_value-unit}
 use Rattle.form_widths.specs.Inequalities.{IsMetAt}
 use Rattle.form_widths.specs.RationalOrderLaws.{le_by, le_of_equal}
-use Rattle.rational_frames.specs.RationalFrames.{MeetsOver, SolvesOver}
-use Rattle.reformulate.specs.declared.equality.Equality.{Equality}
+use Rattle.rational_frames.specs.RationalFrames.{MeetsOver}
 use Rattle.presolve_map.specs.Columns.{kept}
 use Rattle.presolve_map.specs.ReducedRows.{ReducedRows, IsReduced}
 use Rattle.farkas_lift.specs.Joined.{joined}
-use Rattle.farkas_lift.specs.NodeEqualities.{common_side, equality_with, node_equalities, row_equality, work_form, work_slice}
-use Rattle.farkas_lift.specs.NodeSides.{column_sides, cut_side, inequality_of, node_sides, row_sides, side_with, sides_unless}
+use Rattle.farkas_lift.specs.NodeEqualities.{common_side, equality_with, row_equality, work_slice}
+use Rattle.farkas_lift.specs.NodeSides.{column_sides, cut_side, row_sides, side_with, sides_unless}
 use Rattle.farkas_lift.specs.NodeSystem.{cut_of}
 use Rattle.farkas_lift.specs.declared.side.NodeSide.{NodeSide}
 use Rattle.farkas_lift.specs.declared.side.NodeSide.TheVariants.{RowAtMost, RowAtLeast, ColumnAtMost, ColumnAtLeast, Cut}

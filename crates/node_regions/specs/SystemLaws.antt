@@ -1,31 +1,30 @@
 -- The system of a node as a polytope, and how large it is.
-use Rattle.std.proofs.Common.{◌≡◌, ℕ, zero, suc, ◌+◌, ◌*◌, ◌≤◌, ◌<◌, ◌^◌, Bool, List, [], ◌∷◌, ◌++◌, length, map, get_or, take, drop, ℤ, pos, refl, sym, ap, ap₂, subst, ◌∙◌, arith, All}
+use Rattle.std.proofs.Common.{◌≡◌, ℕ, zero, suc, ◌*◌, ◌≤◌, ◌<◌, Bool, List, [], ◌∷◌, ◌++◌, length, map, get_or, take, drop, ℤ, pos, refl, sym, ap, ap₂, subst, ◌∙◌, arith, All}
 use Rattle.std.specs.Prelude.{Option, is_some}
-use Rattle.std.proofs.lemmas.List.{length-drop, length-map, length-take, take-append-drop}
+use Rattle.std.proofs.lemmas.List.{length-drop, length-map, take-append-drop}
 use Rattle.std.proofs.lemmas.List.Elements.{All-append, All-from_get_or, All-get_or, All-head, All-nil, All-tail}
 use Rattle.exact_math.specs.Ring.{integers}
 use Rattle.exact_math.specs.Rational.{ℚ, whole}
-use Rattle.exact_vectors.specs.Matrices.{HasWidth, column, combination, rows_of}
+use Rattle.exact_vectors.specs.Matrices.{column, rows_of}
 use Rattle.exact_vectors.specs.MatrixLaws as Matrix
 use Rattle.frac128.specs.Range.{IsNarrow}
-use Rattle.whole_rows.specs.WholeRows.{WholeRow, WholeRows, IsWithinLimits}
+use Rattle.whole_rows.specs.WholeRows.{WholeRows, IsWithinLimits}
 use Rattle.farkas_rows.specs.Inequalities.{Inequality, unit}
 use Rattle.farkas_rows.specs.NodeLaws.{dot-unit}
 use Rattle.spaces.specs.Maps.{AffineMap, pulled_form}
 use Rattle.spaces.specs.TableLaws.{HasWidth-rows_in, length-rows_in}
-use Rattle.spaces.specs.Tables.{Table, rows_in}
+use Rattle.spaces.specs.Tables.{rows_in}
 use Rattle.lp_dict.specs.Systems.{wholes}
 use Rattle.lp_dict.specs.declared.system.System.{System}
 use Rattle.norm_gauge.specs.Widths.{AreNarrow, Polytope, polytope_of}
 use Rattle.reformulate.specs.Substitutions.{IsShaped, Substitution, columns_of, dimension_of}
-use Rattle.presolve_map.specs.Columns.{open_flags}
 use Rattle.presolve_map.specs.ReducedRows.{ReducedRows, IsReduced, needed_flags, reduced_row, can_violate}
-use Rattle.presolve_map.specs.Selections.{positions, select}
+use Rattle.presolve_map.specs.Selections.{select}
 use Rattle.presolve_map.proofs.KeptLaws.{columns_le, length-kept}
 use Rattle.presolve_map.proofs.SelectLaws.{length-select, positions_le}
 use Rattle.farkas_lift.specs.Joined.{joined}
 use Rattle.farkas_lift.specs.NodeSides.{column_sides, cut_side, inequality_of, node_sides, row_sides}
-use Rattle.farkas_lift.specs.NodeSystem.{IsSystemOf, LimitFits, SideStays, SystemStays, cut_of, node_system}
+use Rattle.farkas_lift.specs.NodeSystem.{IsSystemOf, LimitFits, SideStays, SystemStays, cut_of}
 use Rattle.farkas_lift.specs.declared.side.NodeSide.{NodeSide}
 use Rattle.farkas_lift.specs.declared.side.NodeSide.TheVariants.{ColumnAtMost, ColumnAtLeast}
 use Rattle.farkas_lift.proofs.SideLaws.{sides-few}
