@@ -1,3 +1,4 @@
 pub mod NodeSystems
 pub mod NodeLines
 pub mod Combinations
+pub mod SystemLaws

@@ -1,5 +1,5 @@
 -- The system of a node over the rational numbers, and multipliers that show an end of a form to be empty.
-use Rattle.std.specs.Prelude.{◌≡◌, ℤ, pos, List, length, map, Option}
+use Rattle.std.specs.Prelude.{◌≡◌, ℤ, List, length, map, Option}
 use Rattle.std.specs.List.{All}
 use Rattle.exact_math.specs.Rational.{ℚ, whole, ◌+ℚ◌, ◌<ℚ◌}
 use Rattle.exact_math.specs.Ring.{integers}
@@ -24,7 +24,7 @@ use Rattle.farkas_lift.specs.NodeSystem.{node_system}
 pub record IsFramedNode (model : WholeRows) (work : ReducedRows) (frame : Substitution) (path : List Slice) : Type 0 where
   pub reduced : IsReduced model work
   pub columns : columns_of frame ≡ length work.rows.box
-  pub frame : IsFrame (node_equalities work path) frame
+  pub is_frame : IsFrame (node_equalities work path) frame
   pub forms : HasForms (length model.box) path
   pub kept : All (λ slice. IsOverKept model slice.form) path
 

@@ -1,5 +1,5 @@
 //! The lines of a node from multipliers of its system.
-ghost use Rattle.std.specs.Prelude.{◌≡◌, ◌≤◌, ◌^◌, ◌<◌, ℤ, pos, ¬, length, map, Option, None, IsErrOf, IfErr, IfOk, IfSome, OnOk};
+ghost use Rattle.std.specs.Prelude.{◌≡◌, ◌^◌, ◌<ℤ◌, ℤ, pos, length, map, Option, None, IsErrOf, IfErr, IfOk, IfSome, OnOk};
 ghost use Rattle.std.specs.List.{All};
 ghost use Rattle.std.specs.Option.{IsSomeAnd};
 ghost use Rattle.exact_math.specs.Rational.{◌≤ℚ◌};
@@ -11,7 +11,8 @@ ghost use Rattle.farkas_rows.specs.Inequalities.{Inequality};
 ghost use Rattle.farkas_rows.specs.LeastLine.{IsLeastLine};
 ghost use Rattle.farkas_rows.specs.Refutes.{HasForms, IsDense, line_weight};
 ghost use Rattle.farkas_rows.specs.declared.line.Line.{Line};
-ghost use Rattle.reformulate.specs.Substitutions.{dimension_of};
+ghost use Rattle.reformulate.specs.Substitutions.{dimension_of, IsShaped};
+ghost use Rattle.whole_rows.specs.WholeRows.{IsWithinLimits};
 ghost use Rattle.presolve_map.specs.LiftedLines.{IsLiftedLine, IsNodeOverKept};
 ghost use Rattle.farkas_lift.specs.NodeLifting.{HasOneEach, lifted_limit, lifted_uses, system_form};
 ghost use Rattle.proof_tree.specs.Moves.{ClosesUnder};
@@ -23,10 +24,11 @@ ghost use Rattle.node_lines.specs.declared.halt.LineHalt.TheVariants as halts;
 use crate::halt::LineHalt;
 use crate::node::Node;
 use farkas_lift::lift;
-use farkas_rows::{CutFrac, End, FracUse, Line, from_fracs};
+use farkas_rows::{CutFrac, End, FracUse, Line, Path, from_fracs};
 use frac128::Frac;
 use presolve_map::{WorkTimes, lift_line};
 use std::alloc::Global;
+use whole_rows::DenseRows;
 
 /// How many slices a path has at most whose multipliers are lifted.
 const LONGEST_PATH: usize = 1 << 16;
@@ -36,11 +38,7 @@ const LONGEST_PATH: usize = 1 << 16;
 ///
 /// `Wide` comes exactly where a number leaves the range of `Frac` as the multipliers are carried back, and `Heavy` exactly where
 /// the line weighs above 2 to the power 126.
-pub fn empty_line<'a>(
-    alloc: Global,
-    node: &Node<'a>,
-    weights: &[Frac],
-) -> Result<Line, LineHalt>
+pub fn empty_line<'a>(alloc: Global, node: &Node<'a>, weights: &[Frac]) -> Result<Line, LineHalt>
     requires node { IsFramedNode node.now.model.now node.now.work.now node.now.frame.now node.now.path.now }
     requires empty { ShowsEmpty (dimension_of node.now.frame.now) (system_rows node.now.frame.now node.now.work.now node.now.cut) (system_limits node.now.frame.now node.now.work.now node.now.cut) weights.now }
     ensures line { IfOk result (ClosesUnder node.now.model.now node.now.cut node.now.path.now None) }
@@ -49,7 +47,7 @@ pub fn empty_line<'a>(
     ensures heavy { IsErrOf result halts.Heavy → IsHeavyLine node.now.model.now node.now.work.now node.now.frame.now node.now.path.now None node.now.cut weights.now }
 {
     let times = lifted(alloc, node, weights)?;
-    line_of(alloc, node, &End::Absent, &times)
+    line_of(alloc, node.model, node.path, node.cut, &End::Absent, &times)
 }
 
 /// The line that refutes an end of a form at the node, from multipliers that show the least value of the form on its system: one
@@ -57,10 +55,10 @@ pub fn empty_line<'a>(
 /// the upper end its negative.
 ///
 /// The errors come as those of `empty_line`.
-pub fn end_line<'a>(
+pub fn end_line<'a, 'b>(
     alloc: Global,
     node: &Node<'a>,
-    end: &'a End<'a>,
+    end: &'b End<'b>,
     weights: &[Frac],
 ) -> Result<Line, LineHalt>
     requires node { IsFramedNode node.now.model.now node.now.work.now node.now.frame.now node.now.path.now }
@@ -72,7 +70,7 @@ pub fn end_line<'a>(
 {
     let mut times = lifted(alloc, node, weights)?;
     times.items.push(end_use(node)?)?;
-    line_of(alloc, node, end, &times)
+    line_of(alloc, node.model, node.path, node.cut, end, &times)
 }
 
 /// The multipliers of the model's inequalities that those of a node's system become, with those of the bounds of removed columns.
@@ -86,13 +84,15 @@ fn lifted<'a>(alloc: Global, node: &Node<'a>, weights: &[Frac]) -> Result<WorkTi
     ensures comes { IfOk result (λ times. (end : Option Inequality) (value : ℤ) → IsNodeOverKept node.now.model.now node.now.path.now end → ComesOver node.now.model.now node.now.work.now node.now.path.now end value times.cut times.items (system_form node.now.frame.now node.now.work.now weights.now) (lifted_limit node.now.frame.now node.now.work.now value weights.now)) }
     ensures in_range { OnOk result (¬ (LiftLeaves node.now.model.now node.now.work.now node.now.frame.now node.now.path.now weights.now)) }
     ensures wide { IfErr result (HaltsWide (LiftLeaves node.now.model.now node.now.work.now node.now.frame.now node.now.path.now weights.now)) }
+    ensures limits { IsWithinLimits node.now.model.now }
+    ensures shaped { IsShaped node.now.frame.now }
 {
+    let _rows = node.model.rows();
+    let _dimension = node.frame.dimension();
     let times = lift(alloc, node.model, node.frame, node.work, node.path, weights)?;
+    let cut = times.cut;
     let items = lift_line(alloc, node.model, &times)?;
-    Ok(WorkTimes {
-        cut: times.cut,
-        items,
-    })
+    Ok(WorkTimes { cut, items })
 }
 
 /// The inequality at the end of a form, once: its number is behind those of the slices.
@@ -128,24 +128,20 @@ fn cut_part(cut: Option<i128>, times: &Frac) -> Option<CutFrac>
 /// The least whole line of multipliers that refute a node.
 fn line_of<'a>(
     alloc: Global,
-    node: &Node<'a>,
+    rows: &'a DenseRows,
+    path: &'a Path,
+    cut: Option<i128>,
     end: &'a End<'a>,
     times: &WorkTimes,
 ) -> Result<Line, LineHalt>
-    requires path { HasForms (length node.now.model.now.box) node.now.path.now }
-    requires end { IfSome (inequality_of end.now) (IsDense (length node.now.model.now.box)) }
-    requires refuted { IsRefutation node.now.model.now node.now.path.now (inequality_of end.now) (cut_part node.now.cut times.now.cut) times.now.items }
-    ensures line { IfOk result (ClosesUnder node.now.model.now node.now.cut node.now.path.now (inequality_of end.now)) }
-    ensures never_wide { IfErr result (HaltsWide ⊥) }
-    ensures heavy { IsErrOf result halts.Heavy → (line : Line) → IsLeastLine (cut_part node.now.cut times.now.cut) times.now.items line → pos (2 ^ 126) <ℤ line_weight node.now.model.now node.now.path.now (inequality_of end.now) line }
+    requires limits { IsWithinLimits rows.now }
+    requires path { HasForms (length rows.now.box) path.now }
+    requires end { IfSome (inequality_of end.now) (IsDense (length rows.now.box)) }
+    requires refuted { IsRefutation rows.now path.now (inequality_of end.now) (cut_part cut times.now.cut) times.now.items }
+    ensures line { IfOk result (ClosesUnder rows.now cut path.now (inequality_of end.now)) }
+    ensures never_wide { IsErrOf result halts.Wide → ⊥ }
+    ensures heavy { IsErrOf result halts.Heavy → (line : Line) → IsLeastLine (cut_part cut times.now.cut) times.now.items line → pos (2 ^ 126) <ℤ line_weight rows.now path.now (inequality_of end.now) line }
 {
-    let cut = cut_part(node.cut, &times.cut);
-    Ok(from_fracs(
-        alloc,
-        node.model,
-        node.path,
-        end,
-        &cut,
-        &times.items,
-    )?)
+    let cut = cut_part(cut, &times.cut);
+    Ok(from_fracs(alloc, rows, path, end, &cut, &times.items)?)
 }
