@@ -7,3 +7,6 @@ mod parts;
 
 pub use answer::{ThinForm, ThinFormStop};
 pub use choice::thinnest;
+
+#[cfg(test)]
+mod tests;
