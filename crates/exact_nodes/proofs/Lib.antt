@@ -1,2 +1,3 @@
 pub mod LiftedForms
+pub mod LineHalts
 pub mod NodeFacts

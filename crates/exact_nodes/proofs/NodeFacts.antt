@@ -18,11 +18,10 @@ use Rattle.form_widths.specs.Directions.{IsDirection}
 use Rattle.lp_dict.specs.Sizes.{MeetsCondition}
 use Rattle.lp_dict.specs.Systems.{left_sides, wholes}
 use Rattle.lp_dict.specs.declared.system.System.{System}
-use Rattle.lp_solve.specs.Certificates.{IsBounded, ShowsEmpty, ShowsLeast}
+use Rattle.lp_solve.specs.Certificates.{IsBounded}
 use Rattle.lp_solve.specs.Outcomes.{SolvedIs}
 use Rattle.lp_solve.specs.declared.answer.Solved.{Solved}
 use Rattle.lp_solve.specs.declared.answer.Solved.TheVariants.{Least, Empty}
-use Rattle.norm_gauge.specs.Gauges.{IsLeastAt}
 use Rattle.norm_gauge.specs.Widths.{HasBound, Has, IsInhabited, Polytope, polytope_of}
 use Rattle.generalised_reduce.specs.Ready.{IsReady}
 use Rattle.reformulate.specs.Frames.{IsReachedFrame}
@@ -77,7 +76,7 @@ module _ (rows : WholeRows) (work : ReducedRows) (frame : Substitution) (path : 
   node_framed = record {
     reduced = node_reduced;
     columns = node_reached.columns;
-    frame = node_reached.frame;
+    is_frame = node_reached.frame;
     forms = node.forms;
     kept = All-weaker (λ (slice : Slice). IsKeptForm rows.box slice.form) (λ (slice : Slice). IsOverKept rows slice.form) (λ slice h. over_kept rows slice.form h) path node.of_node.kept;
   }
@@ -128,11 +127,11 @@ module _ (frame : Substitution) (work : ReducedRows) (cut : Option ℤ) (system 
   -- the answer of a program
   pub region_answer : (form : List ℤ) (solved : Solved) → length form ≡ dimension_of frame → SolvedIs (left_sides system.rows) (wholes system.limits) (wholes form) solved → AnswerIs (node_polytope frame work cut) form solved
   region_answer form (Least point value multipliers) long h =
-      subst (λ (p : Polytope). IsLeastAt p (wholes form) point value multipliers) region.polytope
-      (subst (λ (n : ℕ). ShowsLeast n (left_sides system.rows) (wholes system.limits) (wholes form) point value multipliers) (length-map form whole ∙ long ∙ sym region.width) h.0)
+      subst (λ (p : Polytope). AnswerIs p form (Least point value multipliers)) region.polytope
+      (subst (λ (n : ℕ). AnswerIs (record { coordinates = n; rows = left_sides system.rows; limits = wholes system.limits }) form (Least point value multipliers)) (length-map form whole ∙ long ∙ sym region.width) h)
   region_answer form (Empty multipliers) long h =
-      subst (λ (p : Polytope). ShowsEmpty p.coordinates p.rows p.limits multipliers) region.polytope
-      (subst (λ (n : ℕ). ShowsEmpty n (left_sides system.rows) (wholes system.limits) multipliers) (length-map form whole ∙ long ∙ sym region.width) h.0)
+      subst (λ (p : Polytope). AnswerIs p form (Empty multipliers)) region.polytope
+      (subst (λ (n : ℕ). AnswerIs (record { coordinates = n; rows = left_sides system.rows; limits = wholes system.limits }) form (Empty multipliers)) (length-map form whole ∙ long ∙ sym region.width) h)
 
   -- a direction of the system is one of the region
   pub region_direction : (lines : List (List ℤ)) (form : List ℤ) → IsDirection (Has (polytope_of system.rows system.limits)) system.rows.width lines form → IsDirection (Has (node_polytope frame work cut)) (dimension_of frame) lines form

@@ -30,8 +30,8 @@ pub record IsRegion (frame : Substitution) (work : ReducedRows) (cut : Option �
 
 -- a point at which the form is least, as the multipliers show, or multipliers that show that there is no point
 abbrev pub AnswerIs : Polytope → List ℤ → Solved → Type 0
-AnswerIs p form (Least point value multipliers) = IsLeastAt p (wholes form) point value multipliers
-AnswerIs p form (Empty multipliers) = ShowsEmpty p.coordinates p.rows p.limits multipliers
+AnswerIs p form (Least point value multipliers) = IsLeastAt p (wholes form) point value multipliers × ((y : List ℚ) → Has p y → value ≤ℚ form_value form y)
+AnswerIs p form (Empty multipliers) = ShowsEmpty p.coordinates p.rows p.limits multipliers × ((y : List ℚ) → ¬ (Has p y))
 
 -- `lo` is the least whole number that is at least the form's least value and the constant
 pub record IsFirstValue (p : Polytope) (form : List ℤ) (constant lo : ℤ) : Type 0 where
@@ -51,4 +51,5 @@ pub record IsLastValue (p : Polytope) (form : List ℤ) (constant last : ℤ) : 
 pub record IsOptimum (p : Polytope) (form : List ℤ) (pivots : List (ℕ × ℕ)) (value : ℚ) (multipliers : List ℚ) : Type 0 where
   pub point : List ℚ
   pub least : IsLeastAt p (wholes form) point value multipliers
+  pub lowest : (y : List ℚ) → Has p y → value ≤ℚ form_value form y
   pub ends : EndsSo (program p (wholes form)) pivots (Least point value multipliers)
