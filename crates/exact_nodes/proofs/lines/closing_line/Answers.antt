@@ -1,9 +1,10 @@
-use Rattle.std.proofs.Common.{refl, subst, sym, inl}
+use Rattle.std.proofs.Common.{refl, ap, subst, sym, inl, Err}
 use Rattle.std.specs.Prelude.{None}
 use Rattle.exact_math.specs.Ring.{integers}
 use Rattle.exact_vectors.specs.Vectors.{zeros}
 use Rattle.lp_solve.specs.declared.answer.Solved.TheVariants as answers
 use Rattle.reformulate.specs.Substitutions.{dimension_of}
+use Rattle.node_lines.specs.declared.halt.LineHalt.{LineHalt}
 use Rattle.exact_nodes.specs.ExactMoves.{HaltsSo}
 use Rattle.exact_nodes.proofs.LineHalts.{line_halts}
 use Rattle.exact_nodes.proofs.NodeFacts.{node_framed}
@@ -17,4 +18,4 @@ returns-clause-halt c =
     let wide = rw c.items.ensures at c.in-Err.ensures.wide in
     let heavy = rw c.items.ensures at c.in-Err.ensures.heavy in
     subst (HaltsSo c.args.node.now.model.now c.args.node.now.work.now c.args.node.now.frame.now c.args.node.now.path.now c.args.node.now.cut) (sym c.no_line.ensures)
-    (line_halts c.args.node.now.model.now c.args.node.now.path.now c.args.node.now.cut c.args.node.now.frame.now c.args.node.now.work.now c.args.pivots (zeros integers (dimension_of c.args.node.now.frame.now)) (answers.Empty c.args.multipliers) None c.in-Err.halt (inl refl) c.requires.ends refl wide heavy)
+    (line_halts c.args.node.now.model.now c.args.node.now.path.now c.args.node.now.cut c.args.node.now.frame.now c.args.node.now.work.now c.args.pivots (zeros integers (dimension_of c.args.node.now.frame.now)) (answers.Empty c.args.multipliers) None c.in-Err.halt (inl refl) c.requires.ends refl (λ e. wide (ap (λ (h : LineHalt). Err h) e)) (λ e. heavy (ap (λ (h : LineHalt). Err h) e)))
