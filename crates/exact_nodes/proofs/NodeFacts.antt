@@ -5,9 +5,11 @@ use Rattle.std.specs.List.{AllZip}
 use Rattle.std.specs.Ordering.{int_eq}
 use Rattle.std.proofs.lemmas.Bool.Decides.{Decides-int_eq}
 use Rattle.std.proofs.lemmas.List.{length-map}
-use Rattle.std.proofs.lemmas.List.Elements.{All-weaker}
+use Rattle.std.proofs.lemmas.List.Elements.{All-cons, All-nil, All-weaker}
 use Rattle.std.proofs.lemmas.Nat.{mul-le}
 use Rattle.exact_math.specs.Rational.{ℚ, whole}
+use Rattle.exact_math.specs.Ring.{integers}
+use Rattle.exact_vectors.specs.Vectors.{zeros}
 use Rattle.frac128.specs.Range.{IsNarrow}
 use Rattle.whole_rows.specs.declared.bounds.Bounds.{Bounds}
 use Rattle.whole_rows.specs.WholeRows.{WholeRows, IsWithinLimits}
@@ -61,6 +63,11 @@ zero_at (b ∷ box) (a ∷ form) (suc j) lt h e = zero_at box form j (omega arit
 
 pub over_kept : (rows : WholeRows) (form : List ℤ) → IsKeptForm rows.box form → IsOverKept rows form
 over_kept rows form h = λ column lt removed. zero_at rows.box form column lt h removed
+
+-- zeros are narrow
+pub zeros_narrow : (n : ℕ) → All IsNarrow (zeros integers n)
+zeros_narrow zero = All-nil IsNarrow
+zeros_narrow (suc n) = All-cons IsNarrow (pos 0) (zeros integers n) (omega arith) (zeros_narrow n)
 
 -- ---- the node
 

@@ -20,7 +20,7 @@ use crate::forms::model_form;
 use crate::halt::Halt;
 use crate::lines::{closing_line, lower_end, upper_end};
 use crate::point::only_point;
-use crate::region::{answer, region, zero_form};
+use crate::region::{region, some_point};
 use farkas_rows::Line;
 use lp_dict::System;
 use lp_solve::{Ended, Solved};
@@ -96,6 +96,28 @@ fn split<'a>(
     })
 }
 
+/// The move of a node that has points: its only point, or a split.
+fn inhabited_move<'a>(
+    alloc: Global,
+    node: &Node<'a>,
+    map: &Affine<Work, Original>,
+    system: &System,
+) -> Result<Exact, Halt>
+    requires node { IsNodeOf node.now.model.now node.now.work.now node.now.frame.now node.now.path.now }
+    requires map { IsColumnMap node.now.model.now.box map.now }
+    requires region { IsRegion node.now.frame.now node.now.work.now node.now.cut system.now }
+    requires inhabited { IsInhabited (node_polytope node.now.frame.now node.now.work.now node.now.cut) }
+    ensures done { IfOk result (IsExactMove node.now.model.now node.now.work.now node.now.frame.now node.now.path.now node.now.cut) }
+    ensures halt { IfErr result (HaltsSo node.now.model.now node.now.work.now node.now.frame.now node.now.path.now node.now.cut) }
+{
+    if node.frame.dimension() == 0 {
+        let point = only_point(alloc, node, map)?;
+        return Ok(Exact::Point(point));
+    }
+    let cut = split(alloc, node, map, system)?;
+    Ok(Exact::Split(cut))
+}
+
 /// The move of a node, or why it goes no further.
 fn tried<'a>(
     alloc: Global,
@@ -108,8 +130,7 @@ fn tried<'a>(
     ensures halt { IfErr result (HaltsSo node.now.model.now node.now.work.now node.now.frame.now node.now.path.now node.now.cut) }
 {
     let system = region(alloc, node)?;
-    let zero = zero_form(alloc, node.frame.dimension())?;
-    let Ended { solved, pivots } = answer(alloc, node, &system, &zero)?;
+    let Ended { solved, pivots } = some_point(alloc, node, &system)?;
     match solved {
         Solved::Empty { multipliers } => {
             let line = closing_line(alloc, node, multipliers, pivots)?;
@@ -119,12 +140,7 @@ fn tried<'a>(
             point: _point,
             value: _value,
             multipliers: _multipliers,
-        } => {
-            if node.frame.dimension() == 0 {
-                return Ok(Exact::Point(only_point(alloc, node, map)?));
-            }
-            Ok(Exact::Split(split(alloc, node, map, &system)?))
-        }
+        } => inhabited_move(alloc, node, map, &system),
     }
 }
 

@@ -71,3 +71,19 @@ pub(crate) fn answer<'a>(
         Err(LpStop::NoMemory) => Err(Halt::NoMemory),
     }
 }
+
+/// Whether the node has a rational point: a point of it, or multipliers that show that there is none.
+pub(crate) fn some_point<'a>(
+    alloc: Global,
+    node: &Node<'a>,
+    system: &System,
+) -> Result<Ended, Halt>
+    requires node { IsNodeOf node.now.model.now node.now.work.now node.now.frame.now node.now.path.now }
+    requires region { IsRegion node.now.frame.now node.now.work.now node.now.cut system.now }
+    ensures solved { IfOk result (λ ended. AnswerIs (node_polytope node.now.frame.now node.now.work.now node.now.cut) (zeros integers (dimension_of node.now.frame.now)) ended.solved) }
+    ensures ends { IfOk result (λ ended. EndsSo (program (node_polytope node.now.frame.now node.now.work.now node.now.cut) (wholes (zeros integers (dimension_of node.now.frame.now)))) ended.pivots ended.solved) }
+    ensures halt { IfErr result (HaltsSo node.now.model.now node.now.work.now node.now.frame.now node.now.path.now node.now.cut) }
+{
+    let zero = zero_form(alloc, node.frame.dimension())?;
+    answer(alloc, node, system, &zero)
+}

@@ -8,3 +8,5 @@ pub mod MetNodes
 pub mod MetNodeLaws
 pub mod CoordinateLaws
 pub mod SystemLaws
+pub mod EndLaws
+pub mod LightFormLaws

@@ -7,4 +7,4 @@
 
 mod laws;
 
-pub use laws::{node_coordinates, node_systems, reduced_points};
+pub use laws::{forms_of_coordinates, node_coordinates, node_systems, reduced_points};
