@@ -55,10 +55,12 @@ fn direction<'a>(alloc: Global, node: &Node<'a>, system: &System) -> Result<Form
     ensures halt { IfErr result (HaltsSo node.now.model.now node.now.work.now node.now.frame.now node.now.path.now node.now.cut) }
 {
     match thinnest(alloc, system, node.frame.to_work().lines()) {
-        Ok(ThinForm {
-            form,
-            gauge: _gauge,
-        }) => Ok(form),
+        Ok(
+            ThinForm {
+                form,
+                gauge: _gauge,
+            },
+        ) => Ok(form),
         Err(ThinFormStop::Thin(excuse)) => Err(Halt::Excused(Excuse::Thin(excuse))),
         Err(ThinFormStop::Column { form: _form, lp }) => Err(Halt::Excused(Excuse::Lp(lp))),
         Err(ThinFormStop::NoMemory) => Err(Halt::NoMemory),
@@ -119,11 +121,7 @@ fn inhabited_move<'a>(
 }
 
 /// The move of a node, or why it goes no further.
-fn tried<'a>(
-    alloc: Global,
-    node: &Node<'a>,
-    map: &Affine<Work, Original>,
-) -> Result<Exact, Halt>
+fn tried<'a>(alloc: Global, node: &Node<'a>, map: &Affine<Work, Original>) -> Result<Exact, Halt>
     requires node { IsNodeOf node.now.model.now node.now.work.now node.now.frame.now node.now.path.now }
     requires map { IsColumnMap node.now.model.now.box map.now }
     ensures done { IfOk result (IsExactMove node.now.model.now node.now.work.now node.now.frame.now node.now.path.now node.now.cut) }

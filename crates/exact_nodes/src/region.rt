@@ -73,11 +73,7 @@ pub(crate) fn answer<'a>(
 }
 
 /// Whether the node has a rational point: a point of it, or multipliers that show that there is none.
-pub(crate) fn some_point<'a>(
-    alloc: Global,
-    node: &Node<'a>,
-    system: &System,
-) -> Result<Ended, Halt>
+pub(crate) fn some_point<'a>(alloc: Global, node: &Node<'a>, system: &System) -> Result<Ended, Halt>
     requires node { IsNodeOf node.now.model.now node.now.work.now node.now.frame.now node.now.path.now }
     requires region { IsRegion node.now.frame.now node.now.work.now node.now.cut system.now }
     ensures solved { IfOk result (λ ended. AnswerIs (node_polytope node.now.frame.now node.now.work.now node.now.cut) (zeros integers (dimension_of node.now.frame.now)) ended.solved) }

@@ -83,9 +83,10 @@ product_between box base row w n h long few =
     le_by (whole (sum_at Least row box -ℤ dot integers row base)) (form_value row w -ℚ whole (dot integers row base)) (whole (sum_at Least row box)) (form_value row w) (least_sum_over row box w h) (ap (λ t. (form_value row w -ℚ whole (dot integers row base)) -ℚ t) (whole_sub (sum_at Least row box) (dot integers row base)) ∙ cancel (form_value row w) (whole (sum_at Least row box)) (whole (dot integers row base))) in
     let high : (form_value row w -ℚ whole (dot integers row base)) ≤ℚ whole (sum_at Greatest row box -ℤ dot integers row base) =
     le_by (form_value row w -ℚ whole (dot integers row base)) (whole (sum_at Greatest row box -ℤ dot integers row base)) (form_value row w) (whole (sum_at Greatest row box)) (greatest_sum_over row box w h) (ap (λ t. t -ℚ (form_value row w -ℚ whole (dot integers row base))) (whole_sub (sum_at Greatest row box) (dot integers row base)) ∙ cancel (whole (sum_at Greatest row box)) (form_value row w) (whole (dot integers row base))) in
-    subst (IsBetween n) (sym is)
-    (subst (λ t. t ≤ℚ (form_value row w -ℚ whole (dot integers row base))) (whole_neg (pos n)) (le_trans (whole (neg_ℤ (pos n))) (whole (sum_at Least row box -ℤ dot integers row base)) (form_value row w -ℚ whole (dot integers row base)) (whole_le (neg_ℤ (pos n)) (sum_at Least row box -ℤ dot integers row base) (below_size n (sum_at Least row box -ℤ dot integers row base) (omega (arith, few)))) low),
-      le_trans (form_value row w -ℚ whole (dot integers row base)) (whole (sum_at Greatest row box -ℤ dot integers row base)) (whole (pos n)) high (whole_le (sum_at Greatest row box -ℤ dot integers row base) (pos n) (above_size n (sum_at Greatest row box -ℤ dot integers row base) (omega (arith, few)))))
+    subst (IsBetween n) (sym is) (
+      subst (λ t. t ≤ℚ (form_value row w -ℚ whole (dot integers row base))) (whole_neg (pos n)) (le_trans (whole (neg_ℤ (pos n))) (whole (sum_at Least row box -ℤ dot integers row base)) (form_value row w -ℚ whole (dot integers row base)) (whole_le (neg_ℤ (pos n)) (sum_at Least row box -ℤ dot integers row base) (below_size n (sum_at Least row box -ℤ dot integers row base) (omega (arith, few)))) low),
+      le_trans (form_value row w -ℚ whole (dot integers row base)) (whole (sum_at Greatest row box -ℤ dot integers row base)) (whole (pos n)) high (whole_le (sum_at Greatest row box -ℤ dot integers row base) (pos n) (above_size n (sum_at Greatest row box -ℤ dot integers row base) (omega (arith, few)))),
+    )
   where
     cancel : (a b c : ℚ) → (a -ℚ c) -ℚ (b -ℚ c) ≡ a -ℚ b
     cancel a b c = ring rationals (a ∷ b ∷ c ∷ []) (search reads depth 30) (search reads depth 30) refl
@@ -187,9 +188,14 @@ module _ (model : WholeRows) (work : ReducedRows) (frame : Substitution) (path :
   pub points_match : (form : List ℤ) → length form ≡ length model.box → IsKeptForm model.box form → HasMatches (IsRationalPoint model path cut) form (IsInNode frame work cut) (pulled_form frame.to_work (work_form work form)) (neg_ℤ (pulled_constant frame.to_work (work_form work form)))
   points_match form long keeps x point =
       let y = rational_coordinates_of frame (kept model.box x) in
-      let there = coordinates_of_point x point in
-      (y, (there, turned (form_value form x) (form_value (pulled_form frame.to_work (work_form work form)) y) (pulled_constant frame.to_work (work_form work form))
-        (ap (form_value form) (sym (point-again x point)) ∙ value_at_coordinates form y long keeps there)))
+      let there = coordinates_of_point x point in (
+        y,
+        (
+          there,
+          turned (form_value form x) (form_value (pulled_form frame.to_work (work_form work form)) y) (pulled_constant frame.to_work (work_form work form))
+              (ap (form_value form) (sym (point-again x point)) ∙ value_at_coordinates form y long keeps there),
+        ),
+      )
     where
       turned : (v u : ℚ) (c : ℤ) → v ≡ u +ℚ whole c → u ≡ v +ℚ whole (neg_ℤ c)
       turned v u c e = less u (whole c) ∙ ap₂ (λ (p q : ℚ). p +ℚ q) (sym e) (sym (whole_neg c))
@@ -202,7 +208,7 @@ module _ (model : WholeRows) (work : ReducedRows) (frame : Substitution) (path :
   region_is_bounded = record {
     bound = whole (pos (reaches work.rows.box frame.to_work.base (rows_in frame.back)));
     within = λ y there.
-    let point = region-reduced y there in
-    subst (All (IsBetween (reaches work.rows.box frame.to_work.base (rows_in frame.back)))) (rational.back y there.coordinates)
-    (products_between work.rows.box frame.to_work.base (rows_in frame.back) (rational_point_of frame y) (reaches work.rows.box frame.to_work.base (rows_in frame.back)) point.in_box ((region-meets y there).solves.size ∙ sym (shaped.base ∙ columns)) (omega arith));
+        let point = region-reduced y there in
+        subst (All (IsBetween (reaches work.rows.box frame.to_work.base (rows_in frame.back)))) (rational.back y there.coordinates)
+        (products_between work.rows.box frame.to_work.base (rows_in frame.back) (rational_point_of frame y) (reaches work.rows.box frame.to_work.base (rows_in frame.back)) point.in_box ((region-meets y there).solves.size ∙ sym (shaped.base ∙ columns)) (omega arith));
   }

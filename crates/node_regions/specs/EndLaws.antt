@@ -58,8 +58,8 @@ slices_from_ends region inner form inner_form constant low high there back in_lo
       high_there = h.1.0;
       at_low = subst (λ (t : ℚ). t ≤ℚ whole (ceil (form_value inner_form low) +ℤ constant)) (sym l.1.1) (subst (λ (t : ℚ). (form_value inner_form low +ℚ whole constant) ≤ℚ t) (sym (whole_add (ceil (form_value inner_form low)) constant)) (added_le (form_value inner_form low) (whole (ceil (form_value inner_form low))) (whole constant) (le_ceil (form_value inner_form low))));
       at_high = subst (λ (t : ℚ). whole (((ceil (form_value inner_form low) +ℤ constant) +ℤ (((floor (form_value inner_form high) +ℤ constant) -ℤ (ceil (form_value inner_form low) +ℤ constant)) +ℤ pos 1)) -ℤ pos 1) ≤ℚ t) (sym h.1.1)
-      (subst (λ (z : ℤ). whole z ≤ℚ (form_value inner_form high +ℚ whole constant)) (last_is (ceil (form_value inner_form low) +ℤ constant) (floor (form_value inner_form high)) constant)
-      (subst (λ (t : ℚ). t ≤ℚ (form_value inner_form high +ℚ whole constant)) (sym (whole_add (floor (form_value inner_form high)) constant)) (added_le (whole (floor (form_value inner_form high))) (form_value inner_form high) (whole constant) (floor_le (form_value inner_form high)))));
+          (subst (λ (z : ℤ). whole z ≤ℚ (form_value inner_form high +ℚ whole constant)) (last_is (ceil (form_value inner_form low) +ℤ constant) (floor (form_value inner_form high)) constant)
+          (subst (λ (t : ℚ). t ≤ℚ (form_value inner_form high +ℚ whole constant)) (sym (whole_add (floor (form_value inner_form high)) constant)) (added_le (whole (floor (form_value inner_form high))) (form_value inner_form high) (whole constant) (floor_le (form_value inner_form high)))));
     })
   where
     last_is : (a f c : ℤ) → f +ℤ c ≡ (a +ℤ (((f +ℤ c) -ℤ a) +ℤ pos 1)) -ℤ pos 1
@@ -86,6 +86,7 @@ slices_from_ends region inner form inner_form constant low high there back in_lo
     between : StaysBetween region form (ceil (form_value inner_form low) +ℤ constant) (((floor (form_value inner_form high) +ℤ constant) -ℤ (ceil (form_value inner_form low) +ℤ constant)) +ℤ pos 1)
     between x in_x =
         let y = back x in_x in
-        let is = restored (form_value form x) (form_value inner_form y.0) constant y.1.1 in
-        (subst (λ (t : ℚ). whole ((ceil (form_value inner_form low) +ℤ constant) -ℤ pos 1) <ℚ t) (sym is) (above (form_value inner_form y.0) (least y.0 y.1.0)),
-          subst (λ (t : ℚ). t <ℚ whole ((ceil (form_value inner_form low) +ℤ constant) +ℤ (((floor (form_value inner_form high) +ℤ constant) -ℤ (ceil (form_value inner_form low) +ℤ constant)) +ℤ pos 1))) (sym is) (beneath (form_value inner_form y.0) (greatest y.0 y.1.0)))
+        let is = restored (form_value form x) (form_value inner_form y.0) constant y.1.1 in (
+          subst (λ (t : ℚ). whole ((ceil (form_value inner_form low) +ℤ constant) -ℤ pos 1) <ℚ t) (sym is) (above (form_value inner_form y.0) (least y.0 y.1.0)),
+          subst (λ (t : ℚ). t <ℚ whole ((ceil (form_value inner_form low) +ℤ constant) +ℤ (((floor (form_value inner_form high) +ℤ constant) -ℤ (ceil (form_value inner_form low) +ℤ constant)) +ℤ pos 1))) (sym is) (beneath (form_value inner_form y.0) (greatest y.0 y.1.0)),
+        )

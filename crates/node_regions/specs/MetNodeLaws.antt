@@ -194,9 +194,9 @@ met_is_reduced model work path cut w reduced forms met =
     record {
       in_box = in_box-from work.rows.box w met.solves.size (λ j lt. column-met work (cut_of cut) w j met.solves.size lt (joined_part S column_sides (length work.rows.box) j lt (front_part S columns (cut_side (is_some cut)) rest)));
       in_rows = All-from_get_or (λ (row : WholeRow). IsWithin row.low row.high (form_value row.factors w)) work.rows.rows no_row (λ i lt.
-      row-met work (cut_of cut) w i (common_side (row_at work.rows i).low (row_at work.rows i).high) refl
-      (joined_part S (row_sides work) (length work.rows.rows) i lt (front_part S rows (columns ++ cut_side (is_some cut)) met.sides))
-      (joined_part (MeetsOver w) (λ i. row_equality (row_at work.rows i)) (length work.rows.rows) i lt (front_part (MeetsOver w) row_equalities (map (work_slice work) path) met.solves.meets)));
+          row-met work (cut_of cut) w i (common_side (row_at work.rows i).low (row_at work.rows i).high) refl
+          (joined_part S (row_sides work) (length work.rows.rows) i lt (front_part S rows (columns ++ cut_side (is_some cut)) met.sides))
+          (joined_part (MeetsOver w) (λ i. row_equality (row_at work.rows i)) (length work.rows.rows) i lt (front_part (MeetsOver w) row_equalities (map (work_slice work) path) met.solves.meets)));
       on_path = path-met model work w path reduced forms (back_part (MeetsOver w) row_equalities (map (work_slice work) path) met.solves.meets);
       below_cut = cut-met work w cut (back_part S columns (cut_side (is_some cut)) rest);
     }
@@ -214,14 +214,14 @@ reduced_is_met model work path cut w reduced forms point =
       solves = record {
         size = size;
         meets = All-append (MeetsOver w) row_equalities (map (work_slice work) path)
-        (joined-All (MeetsOver w) (λ i. row_equality (row_at work.rows i)) (length work.rows.rows) (λ i lt. row-equality work (cut_of cut) w i (common_side (row_at work.rows i).low (row_at work.rows i).high) refl (at i lt)))
-        (path-equalities model work w path reduced forms point.on_path);
+            (joined-All (MeetsOver w) (λ i. row_equality (row_at work.rows i)) (length work.rows.rows) (λ i lt. row-equality work (cut_of cut) w i (common_side (row_at work.rows i).low (row_at work.rows i).high) refl (at i lt)))
+            (path-equalities model work w path reduced forms point.on_path);
       };
       sides = All-append S rows (columns ++ cut_side (is_some cut))
-      (joined-All S (row_sides work) (length work.rows.rows) (λ i lt. row-sides work (cut_of cut) w i (common_side (row_at work.rows i).low (row_at work.rows i).high) (at i lt)))
-      (All-append S columns (cut_side (is_some cut))
-      (joined-All S column_sides (length work.rows.box) (λ j lt. column-sides work (cut_of cut) w j size lt (in_box-at work.rows.box w j lt point.in_box)))
-      (cut-side work w cut point.below_cut));
+          (joined-All S (row_sides work) (length work.rows.rows) (λ i lt. row-sides work (cut_of cut) w i (common_side (row_at work.rows i).low (row_at work.rows i).high) (at i lt)))
+          (All-append S columns (cut_side (is_some cut))
+          (joined-All S column_sides (length work.rows.box) (λ j lt. column-sides work (cut_of cut) w j size lt (in_box-at work.rows.box w j lt point.in_box)))
+          (cut-side work w cut point.below_cut));
     }
   where
     box-long : (box : List Bounds) (w : List ℚ) → IsInBox box w → length box ≡ length w
