@@ -1,6 +1,6 @@
 pub mod NodeFrames
 pub mod NodeRegions
-pub mod FramedNodes
+pub mod NodesWithFrames
 pub mod PlacedPoints
 pub mod PlacedPointLaws
 pub mod KeptFormLaws

@@ -22,7 +22,7 @@ ghost use Rattle.presolve_map.specs.ReducedRows.{ReducedRows, IsReduced};
 ghost use Rattle.farkas_lift.specs.NodeEqualities.{work_form};
 ghost use Rattle.farkas_lift.specs.NodeSides.{node_sides};
 ghost use Rattle.farkas_lift.specs.NodeSystem.{IsSystemOf, SystemStays};
-ghost use Rattle.node_regions.specs.FramedNodes.{FramedNode, HasEnds, first_slice, last_slice};
+ghost use Rattle.node_regions.specs.NodesWithFrames.{FramedNode, HasEnds, first_slice, last_slice};
 ghost use Rattle.node_regions.specs.NodeFrames.{IsKeptForm};
 ghost use Rattle.node_regions.specs.NodeRegions.{IsInNode, node_polytope, polytope_in};
 ghost use Rattle.node_regions.specs.PlacedPoints.{IsInBox, IsReducedPoint, placed_point};
