@@ -1,4 +1,7 @@
+pub mod FramedNodes
+pub mod KeptValues
 pub mod NodeFrames
+pub mod NodePointLaws
 pub mod NodeRegions
 pub mod NodesWithFrames
 pub mod PlacedPoints

@@ -1,5 +1,5 @@
 -- What the choice among candidates uses.
-use Rattle.std.proofs.Common.{◌≡◌, ◌≢◌, ◌⊎◌, inl, inr, ⊎_elim, ℕ, zero, suc, ◌+◌, ◌-◌, ◌^◌, ◌<◌, ◌≤◌, ℤ, pos, List, [], ◌∷◌, length, get_or, replicate, refl, sym, ap, subst, ◌∙◌, arith}
+use Rattle.std.proofs.Common.{◌≡◌, ◌≢◌, inl, inr, ⊎_elim, ℕ, suc, ◌-◌, ◌^◌, ◌<◌, ◌≤◌, ℤ, pos, List, [], length, get_or, refl, sym, subst, arith}
 use Rattle.std.specs.Prelude.{All}
 use Rattle.std.proofs.lemmas.Bool.{cases_eq}
 use Rattle.std.proofs.lemmas.List.Elements.{All-replicate}
@@ -10,14 +10,14 @@ use Rattle.exact_math.specs.Ring.{integers}
 use Rattle.exact_math.specs.RingLaws as Laws
 use Rattle.exact_vectors.specs.Vectors.{zeros}
 use Rattle.form_widths.specs.Directions.{IsDirection, IsFreeColumn}
-use Rattle.form_widths.specs.Widths.{IsBoundOn, IsNoWiderThan, IsNonzero, IsPrimitive}
+use Rattle.form_widths.specs.Widths.{IsNoWiderThan, IsNonzero, IsPrimitive}
 use Rattle.generalised_reduce.specs.Reduced.{IsWithinFactor}
 use Rattle.lp_dict.specs.Systems.{wholes}
 use Rattle.norm_gauge.specs.Gauges.{IsGauge}
 use Rattle.norm_gauge.specs.Widths.{Has, IsAtMost, Polytope}
 use Rattle.norm_gauge.specs.declared.gauge.Gauge.{Gauge}
 use Rattle.thin_forms.specs.BoundLaws.{bound_on_polytope, bound_on_region}
-use Rattle.thin_forms.specs.Candidates.{IsCandidate, IsFirstOfReduced}
+use Rattle.thin_forms.specs.Candidates.{IsFirstOfReduced}
 use Rattle.thin_forms.specs.Choices.{IsBelowBounds, IsChosen}
 use Rattle.thin_forms.specs.Parts.{IsPrimitivePart}
 use Rattle.thin_forms.proofs.PartSteps.{part_is_free, part_is_only, zeros_not_free}

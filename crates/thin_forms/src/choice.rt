@@ -71,6 +71,7 @@ impl ThinForm {
         let Some(form) = primitive_part(alloc, lines.row(j))? else {
             return Ok(());
         };
+        // under none of the lines
         match width(alloc, system, lines, 0, &form) {
             Ok(gauge) => {
                 let best = self.gauge.value;

@@ -1,4 +1,4 @@
-use Rattle.std.proofs.Common.{◌≡◌, ◌<◌, ◌≤◌, [], length, get_or, pos, arith, subst, sym, ◌∙◌}
+use Rattle.std.proofs.Common.{◌≡◌, ◌<◌, [], length, get_or, pos, arith, subst, sym, ◌∙◌}
 use Rattle.std.specs.Prelude.{All, IfNone, IfSome}
 use Rattle.exact_math.specs.Rational.{◌≤ℚ◌, ◌<ℚ◌}
 use Rattle.exact_math.specs.RationalTests.{le_false, le_true}
