@@ -96,12 +96,13 @@ EndLeaves p form constant =
     ((point : List ℚ) × (value : ℚ) × (weights : List ℚ) × IsLeastAt p (wholes form) point value weights × ¬ (FitsSigned w128 (ceil value +ℤ constant)))
     ⊎ ((point : List ℚ) × (value : ℚ) × (weights : List ℚ) × IsLeastAt p (wholes (negate integers form)) point (neg_ℚ value) weights × ¬ (FitsSigned w128 (floor value +ℤ constant)))
 
--- an entry of d V leaves `i128`, or its value at x0, each product and each sum in index order taken along; or an end of it does
+-- each entry of d V stays in `i128`, and its value at x0, with each product and each sum in index order
+abbrev pub FormStays : Substitution → List ℤ → Type 0
+FormStays frame form = ProductStays form frame.back × StaysInRange (pos 0) (back_form frame form) frame.to_work.base
+
+-- they do not; or an end of the form leaves `i128`
 abbrev pub FormLeaves : Substitution → Polytope → List ℤ → Type 0
-FormLeaves frame p form =
-    ¬ (ProductStays form frame.back)
-    ⊎ (¬ (StaysInRange (pos 0) (back_form frame form) frame.to_work.base)
-    ⊎ EndLeaves p form (dot integers (back_form frame form) frame.to_work.base))
+FormLeaves frame p form = ¬ (FormStays frame form) ⊎ EndLeaves p form (dot integers (back_form frame form) frame.to_work.base)
 
 -- the form is all 0, and a number of the node's system leaves its range; or it is a direction, and leaves it over the work columns
 abbrev pub IsWideMap : Option ℤ → Substitution → ReducedRows → Polytope → List ℤ → Type 0

@@ -5,14 +5,14 @@ ghost use Rattle.exact_vectors.specs.Matrices.{column};
 ghost use Rattle.exact_vectors.specs.Range.{StaysInRange};
 ghost use Rattle.exact_vectors.specs.Vectors.{dot};
 ghost use Rattle.presolve_map.specs.Columns.{IsColumnMap};
-ghost use Rattle.reformulate.specs.Substitutions.{IsShaped, dimension_of};
+ghost use Rattle.reformulate.specs.Substitutions.{IsShaped, columns_of, dimension_of};
 ghost use Rattle.spaces.specs.Maps.{ProductStays};
 ghost use Rattle.spaces.specs.Stops.{StopsUnless};
 ghost use Rattle.spaces.specs.Tables.{rows_in};
 ghost use Rattle.whole_rows.specs.WholeRows.{span};
 ghost use Rattle.node_regions.specs.NodeRegions.{node_polytope};
 ghost use Rattle.exact_nodes.specs.ExactMoves.{HaltsSo, IsNodeOf};
-ghost use Rattle.exact_nodes.specs.NodeExcuses.{IsChosenDirection, IsModelForm, back_form};
+ghost use Rattle.exact_nodes.specs.NodeExcuses.{FormStays, IsChosenDirection, IsModelForm, back_form};
 
 use crate::excuse::Excuse;
 use crate::halt::Halt;
@@ -21,7 +21,7 @@ use node_lines::Node;
 use presolve_map::lift_form;
 use reformulate::Frame;
 use sequence::NoMemory;
-use spaces::{Affine, Form, Grid, Kernel, MapStop, Original, Space, Work};
+use spaces::{Affine, Form, Grid, Kernel, MapStop, Original, Space, WideEntry, Work};
 use std::alloc::Global;
 use whole_rows::span_of;
 
@@ -60,6 +60,7 @@ fn column_sum(factors: &[i128], lines: &Grid<Work, i128>, place: usize) -> Optio
 fn form_back(alloc: Global, frame: &Frame, form: &Form<Kernel>) -> Result<Form<Work>, MapStop>
     requires { length form.now ≡ dimension_of frame.now }
     ensures value { IfOk result (λ back. back ≡ back_form frame.now form.now) }
+    ensures columns { IfOk result (λ back. length back ≡ columns_of frame.now) }
     ensures in_range { OnOk result (ProductStays form.now frame.now.back) }
     ensures stop { IfErr result (StopsUnless (ProductStays form.now frame.now.back)) }
     ensures shaped { IsShaped frame.now }
@@ -73,6 +74,32 @@ fn form_back(alloc: Global, frame: &Frame, form: &Form<Kernel>) -> Result<Form<W
         items.push(item)?;
     }
     Ok(Form::of(items))
+}
+
+/// d V, and its value at x0.
+#[derive(Drop)]
+struct WorkForm {
+    form: Form<Work>,
+    constant: i128,
+}
+
+/// d V, and its value at x0.
+///
+/// `Wide` comes exactly where a product, or a sum of products in index order, leaves `i128`.
+fn over_work(alloc: Global, frame: &Frame, form: &Form<Kernel>) -> Result<WorkForm, MapStop>
+    requires { length form.now ≡ dimension_of frame.now }
+    ensures form { IfOk result (λ work. work.form ≡ back_form frame.now form.now) }
+    ensures constant { IfOk result (λ work. work.constant ≡ dot integers (back_form frame.now form.now) frame.now.to_work.base) }
+    ensures stop { IfErr result (StopsUnless (FormStays frame.now form.now)) }
+{
+    let back = form_back(alloc, frame, form)?;
+    match back.at(frame.to_work().base()) {
+        Ok(constant) => Ok(WorkForm {
+            form: back,
+            constant,
+        }),
+        Err(WideEntry) => Err(MapStop::Wide),
+    }
 }
 
 /// The form over all columns that has the values of a direction of the node.
@@ -90,13 +117,13 @@ pub(crate) fn model_form<'a>(
     ensures light { IfOk result (λ moved. span moved.form node.now.model.now.box ≤ 2 ^ 96) }
     ensures halt { IfErr result (HaltsSo node.now.model.now node.now.work.now node.now.frame.now node.now.path.now node.now.cut) }
 {
-    let back = match form_back(alloc, node.frame, form) {
-        Ok(back) => back,
+    let WorkForm {
+        form: back,
+        constant,
+    } = match over_work(alloc, node.frame, form) {
+        Ok(work) => work,
         Err(MapStop::Wide) => return Err(Halt::Excused(Excuse::WideMap(copied(alloc, form)?))),
         Err(MapStop::NoMemory) => return Err(Halt::NoMemory),
-    };
-    let Ok(constant) = back.at(node.frame.to_work().base()) else {
-        return Err(Halt::Excused(Excuse::WideMap(copied(alloc, form)?)));
     };
     let lifted = lift_form(alloc, map, &back)?;
     if span_of(lifted.items(), node.model.bounds()).is_none() {
