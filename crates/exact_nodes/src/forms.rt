@@ -10,6 +10,8 @@ ghost use Rattle.spaces.specs.Maps.{ProductStays};
 ghost use Rattle.spaces.specs.Stops.{StopsUnless};
 ghost use Rattle.spaces.specs.Tables.{rows_in};
 ghost use Rattle.whole_rows.specs.WholeRows.{span};
+ghost use Rattle.farkas_lift.specs.NodeEqualities.{work_form};
+ghost use Rattle.node_regions.specs.NodeFrames.{IsKeptForm};
 ghost use Rattle.node_regions.specs.NodeRegions.{node_polytope};
 ghost use Rattle.exact_nodes.specs.ExactMoves.{HaltsSo, IsNodeOf};
 ghost use Rattle.exact_nodes.specs.NodeExcuses.{FormStays, IsChosenDirection, IsModelForm, back_form};
@@ -102,6 +104,24 @@ fn over_work(alloc: Global, frame: &Frame, form: &Form<Kernel>) -> Result<WorkFo
     }
 }
 
+/// The form over all columns with the factors of one over the work columns, 0 in the others.
+fn over_all<'a>(
+    alloc: Global,
+    node: &Node<'a>,
+    map: &Affine<Work, Original>,
+    form: &Form<Work>,
+) -> Result<Form<Original>, NoMemory>
+    requires node { IsNodeOf node.now.model.now node.now.work.now node.now.frame.now node.now.path.now }
+    requires map { IsColumnMap node.now.model.now.box map.now }
+    requires columns { length form.now ≡ length node.now.work.now.rows.box }
+    ensures kept { IfOk result (IsKeptForm node.now.model.now.box) }
+    ensures same { IfOk result (λ lifted. work_form node.now.work.now lifted ≡ form.now) }
+    ensures dense { IfOk result (λ lifted. length lifted ≡ length node.now.model.now.box) }
+{
+    let lifted = lift_form(alloc, map, form)?;
+    Ok(lifted)
+}
+
 /// The form over all columns that has the values of a direction of the node.
 pub(crate) fn model_form<'a>(
     alloc: Global,
@@ -125,7 +145,7 @@ pub(crate) fn model_form<'a>(
         Err(MapStop::Wide) => return Err(Halt::Excused(Excuse::WideMap(copied(alloc, form)?))),
         Err(MapStop::NoMemory) => return Err(Halt::NoMemory),
     };
-    let lifted = lift_form(alloc, map, &back)?;
+    let lifted = over_all(alloc, node, map, &back)?;
     if span_of(lifted.items(), node.model.bounds()).is_none() {
         return Err(Halt::Excused(Excuse::HeavyForm(lifted)));
     }
