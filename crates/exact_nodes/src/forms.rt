@@ -91,6 +91,7 @@ struct WorkForm {
 fn over_work(alloc: Global, frame: &Frame, form: &Form<Kernel>) -> Result<WorkForm, MapStop>
     requires { length form.now ≡ dimension_of frame.now }
     ensures form { IfOk result (λ work. work.form ≡ back_form frame.now form.now) }
+    ensures columns { IfOk result (λ work. length work.form ≡ columns_of frame.now) }
     ensures constant { IfOk result (λ work. work.constant ≡ dot integers (back_form frame.now form.now) frame.now.to_work.base) }
     ensures stop { IfErr result (StopsUnless (FormStays frame.now form.now)) }
 {
@@ -122,6 +123,28 @@ fn over_all<'a>(
     Ok(lifted)
 }
 
+/// The form over the work columns of a direction of the node.
+fn direction_over_work<'a>(
+    alloc: Global,
+    node: &Node<'a>,
+    form: &Form<Kernel>,
+) -> Result<WorkForm, Halt>
+    requires chosen { IsChosenDirection (node_polytope node.now.frame.now node.now.work.now node.now.cut) (rows_in node.now.frame.now.to_work.lines) form.now }
+    ensures form { IfOk result (λ work. work.form ≡ back_form node.now.frame.now form.now) }
+    ensures columns { IfOk result (λ work. length work.form ≡ columns_of node.now.frame.now) }
+    ensures constant { IfOk result (λ work. work.constant ≡ dot integers (back_form node.now.frame.now form.now) node.now.frame.now.to_work.base) }
+    ensures halt { IfErr result (HaltsSo node.now.model.now node.now.work.now node.now.frame.now node.now.path.now node.now.cut) }
+{
+    match over_work(alloc, node.frame, form) {
+        Ok(work) => Ok(work),
+        Err(MapStop::Wide) => {
+            let copy = copied(alloc, form)?;
+            Err(Halt::Excused(Excuse::WideMap(copy)))
+        }
+        Err(MapStop::NoMemory) => Err(Halt::NoMemory),
+    }
+}
+
 /// The form over all columns that has the values of a direction of the node.
 pub(crate) fn model_form<'a>(
     alloc: Global,
@@ -137,20 +160,13 @@ pub(crate) fn model_form<'a>(
     ensures light { IfOk result (λ moved. span moved.form node.now.model.now.box ≤ 2 ^ 96) }
     ensures halt { IfErr result (HaltsSo node.now.model.now node.now.work.now node.now.frame.now node.now.path.now node.now.cut) }
 {
-    let WorkForm {
-        form: back,
-        constant,
-    } = match over_work(alloc, node.frame, form) {
-        Ok(work) => work,
-        Err(MapStop::Wide) => return Err(Halt::Excused(Excuse::WideMap(copied(alloc, form)?))),
-        Err(MapStop::NoMemory) => return Err(Halt::NoMemory),
-    };
-    let lifted = over_all(alloc, node, map, &back)?;
+    let work = direction_over_work(alloc, node, form)?;
+    let lifted = over_all(alloc, node, map, &work.form)?;
     if span_of(lifted.items(), node.model.bounds()).is_none() {
         return Err(Halt::Excused(Excuse::HeavyForm(lifted)));
     }
     Ok(ModelForm {
         form: lifted,
-        constant,
+        constant: work.constant,
     })
 }
