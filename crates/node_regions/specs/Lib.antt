@@ -1,4 +1,3 @@
-pub mod FramedNodes
 pub mod KeptValues
 pub mod NodeFrames
 pub mod NodePointLaws
@@ -13,3 +12,4 @@ pub mod CoordinateLaws
 pub mod SystemLaws
 pub mod EndLaws
 pub mod LightFormLaws
+pub mod RegionPoints

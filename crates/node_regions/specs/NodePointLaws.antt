@@ -48,7 +48,7 @@ use Rattle.farkas_lift.specs.declared.side.NodeSide.{NodeSide}
 use Rattle.farkas_lift.specs.declared.side.NodeSide.TheVariants.{RowAtMost, RowAtLeast, ColumnAtMost, ColumnAtLeast, Cut}
 use Rattle.farkas_lift.proofs.JoinedLaws.{joined-All, joined-at, joined-length, positions-at, select-at, select-length}
 use Rattle.farkas_lift.proofs.NodeValues.{both_sides, no_part}
-use Rattle.node_regions.specs.FramedNodes.{IsFramedNode, StandsFor}
+use Rattle.node_regions.specs.RegionPoints.{IsFramedNode, StandsFor}
 use Rattle.node_regions.specs.KeptValues.{spread, lies-spread, lies-select, select-spread, form_value-kept, least_sum, greatest_sum}
 use Rattle.node_regions.specs.NodeRegions.{IsInNode}
 
@@ -363,20 +363,23 @@ module _ (work : ReducedRows) (path : List Slice) (cut : Option ℤ) (w : List �
       lower (Some v) e h = subst (λ (o : Option ℤ). whole (unwrap_or o (pos 0)) ≤ℚ form_value (row_at work.rows i).factors w) e (at_least-back (row_at work.rows i).factors (unwrap_or (row_at work.rows i).low (pos 0)) w (All-head (IsMetSide work path cut w) (RowAtLeast i) [] h))
 
       by_side : (o : Option ℤ) → common_side (row_at work.rows i).low (row_at work.rows i).high ≡ o → All (MeetsOver w) (equality_with (row_at work.rows i).factors o) → All (IsMetSide work path cut w) (sides_unless o (row_at work.rows i) i) → IsMetRow w (row_at work.rows i)
-      by_side None e equal sides =
-          (lower (row_at work.rows i).low refl (behind (IsMetSide work path cut w) (side_with (RowAtMost i) (row_at work.rows i).high) (side_with (RowAtLeast i) (row_at work.rows i).low) sides),
-          upper (row_at work.rows i).high refl (front (IsMetSide work path cut w) (side_with (RowAtMost i) (row_at work.rows i).high) (side_with (RowAtLeast i) (row_at work.rows i).low) sides))
+      by_side None e equal sides = (
+        lower (row_at work.rows i).low refl (behind (IsMetSide work path cut w) (side_with (RowAtMost i) (row_at work.rows i).high) (side_with (RowAtLeast i) (row_at work.rows i).low) sides),
+        upper (row_at work.rows i).high refl (front (IsMetSide work path cut w) (side_with (RowAtMost i) (row_at work.rows i).high) (side_with (RowAtLeast i) (row_at work.rows i).low) sides),
+      )
       by_side (Some side) e equal sides =
           let both = both_sides (row_at work.rows i).low (row_at work.rows i).high side e in
-          let is : form_value (row_at work.rows i).factors w ≡ whole side = All-head (MeetsOver w) (record { form = (row_at work.rows i).factors; side = side }) [] equal in
-          (subst (λ (o : Option ℤ). IfSome o (λ l. whole l ≤ℚ form_value (row_at work.rows i).factors w)) (sym both.0) (le_of_equal (whole side) _ (sym is)),
-          subst (λ (o : Option ℤ). IfSome o (λ h. form_value (row_at work.rows i).factors w ≤ℚ whole h)) (sym both.1) (le_of_equal _ (whole side) is))
+          let is : form_value (row_at work.rows i).factors w ≡ whole side = All-head (MeetsOver w) (record { form = (row_at work.rows i).factors; side = side }) [] equal in (
+            subst (λ (o : Option ℤ). IfSome o (λ l. whole l ≤ℚ form_value (row_at work.rows i).factors w)) (sym both.0) (le_of_equal (whole side) _ (sym is)),
+            subst (λ (o : Option ℤ). IfSome o (λ h. form_value (row_at work.rows i).factors w ≤ℚ whole h)) (sym both.1) (le_of_equal _ (whole side) is),
+          )
 
   column-back : (j : ℕ) → length w ≡ length work.rows.box → j < length work.rows.box → All (IsMetSide work path cut w) (column_sides j) → IsIn (bounds_at work.rows j) (get_or w j (whole (pos 0)))
   column-back j size lt h =
-      let value : form_value (unit (length work.rows.box) j) w ≡ get_or w j (whole (pos 0)) = form_value-unit (length work.rows.box) j w size lt in
-      (subst (λ q. whole (bounds_at work.rows j).low ≤ℚ q) value (at_least-back (unit (length work.rows.box) j) (bounds_at work.rows j).low w (All-head (IsMetSide work path cut w) (ColumnAtLeast j) [] (All-tail (IsMetSide work path cut w) (ColumnAtMost j) (ColumnAtLeast j ∷ []) h))),
-      subst (λ q. q ≤ℚ whole (bounds_at work.rows j).high) value (All-head (IsMetSide work path cut w) (ColumnAtMost j) (ColumnAtLeast j ∷ []) h))
+      let value : form_value (unit (length work.rows.box) j) w ≡ get_or w j (whole (pos 0)) = form_value-unit (length work.rows.box) j w size lt in (
+        subst (λ q. whole (bounds_at work.rows j).low ≤ℚ q) value (at_least-back (unit (length work.rows.box) j) (bounds_at work.rows j).low w (All-head (IsMetSide work path cut w) (ColumnAtLeast j) [] (All-tail (IsMetSide work path cut w) (ColumnAtMost j) (ColumnAtLeast j ∷ []) h))),
+        subst (λ q. q ≤ℚ whole (bounds_at work.rows j).high) value (All-head (IsMetSide work path cut w) (ColumnAtMost j) (ColumnAtLeast j ∷ []) h),
+      )
 
   point_from : (n : ℕ) → n ≡ length work.rows.box → SolvesOver n (node_equalities work path) w → All (IsMetSide work path cut w) (node_sides work (is_some cut)) → IsWorkPoint work path cut w
   point_from n as_many solves sides =

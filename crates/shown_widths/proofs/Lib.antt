@@ -1,3 +1,5 @@
 mod ColumnLaws
 mod DirectionLaws
+mod ShownLaws
+mod SideLaws
 mod SlackLaws

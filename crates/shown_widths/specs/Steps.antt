@@ -1,5 +1,5 @@
 -- When an inequality leaves the mean of points so much room that a width, in parts of a unit, is at most so many times twice that.
-use Rattle.std.specs.Prelude.{◌≡◌, ◌⊎◌, ℕ, ◌-◌, ◌*◌, ◌^◌, ◌≤◌, ℤ, pos, ◌*ℤ◌, ◌≤ℤ◌, nat_abs, List, length, map, All, Option, IfSome, is_some}
+use Rattle.std.specs.Prelude.{◌≡◌, ◌⊎◌, ℕ, ◌-◌, ◌*◌, ◌^◌, ◌<◌, ◌≤◌, ℤ, pos, ◌*ℤ◌, ◌≤ℤ◌, nat_abs, List, length, map, All, Option, IfSome, is_some}
 use Rattle.exact_math.specs.Rational.{ℚ, whole, ◌*ℚ◌, ◌≤ℚ◌}
 use Rattle.exact_math.specs.RationalRing.{rationals}
 use Rattle.exact_vectors.specs.Vectors.{sum}
@@ -50,8 +50,9 @@ SideLeaves width to_work points work value side = LeavesRoomAlong width to_work 
 abbrev pub AllLeave : Width → AffineMap → List (List ℚ) → ReducedRows → Option ℤ → Type 0
 AllLeave width to_work points work cut = All (SideLeaves width to_work points work (cut_of cut)) (node_sides work (is_some cut))
 
--- a number that is at most 4^(r-1)
+-- the parts of a unit in which a width is counted, as often as a number says that is at most 4^(r-1)
 pub record IsFactorIn (r : ℕ) (number : ℤ) : Type 0 where
   pub times : ℕ
-  pub is : number ≡ pos times
+  pub is : number ≡ pos (width_parts * times)
+  pub some : 0 < times
   pub most : times ≤ 4 ^ (r - 1)

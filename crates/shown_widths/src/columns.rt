@@ -124,7 +124,8 @@ pub(crate) fn are_wide(lines: &Grid<Kernel, i128>, width: &Frac, points: &[WorkP
     ensures { IsTrue result → (j : ℕ) → j < lines.now.rows → IsShownWide j (row_at lines.now j) width.now points.now }
 {
     for j in 0..lines.rows() {
-        if !is_wide(j, lines.row(j), width, points) {
+        let shown = is_wide(j, lines.row(j), width, points);
+        if !shown {
             return false;
         }
     }

@@ -11,7 +11,7 @@ ghost use Rattle.node_point.specs.RationalPoints.{IsRationalPoint};
 ghost use Rattle.proof_tree.specs.Moves.{SplitsUnder};
 ghost use Rattle.reformulate.specs.Substitutions.{columns_of, dimension_of};
 ghost use Rattle.farkas_lift.specs.NodeEqualities.{work_form};
-ghost use Rattle.node_regions.specs.FramedNodes.{IsFramedNode};
+ghost use Rattle.node_regions.specs.RegionPoints.{IsFramedNode};
 ghost use Rattle.node_regions.specs.NodeRegions.{IsInNode};
 ghost use Rattle.shown_widths.specs.Thin.{IsThinBy};
 
@@ -55,19 +55,21 @@ fn is_thin(
     requires some { 0 < length points.now }
     ensures { IfOk result (λ shown. IsTrue shown → IsThinBy node.entry.frame.now node.entry.work.now node.entry.cut width.now points.now) }
 {
-    if !are_wide(node.frame.to_work().lines(), width, points) {
+    let wide = are_wide(node.frame.to_work().lines(), width, points);
+    if !wide {
         return Ok(false);
     }
     let Some(units) = units_of(width) else {
         return Ok(false);
     };
-    let factor = (1 << 16) * factor_in(node.frame.dimension());
+    let factor = factor_in(node.frame.dimension());
     let trial = Trial {
         width: Width { units, factor },
         columns: node.work.columns(),
         points,
     };
-    all_leave(alloc, node, trial)
+    let shown = all_leave(alloc, node, trial)?;
+    Ok(shown)
 }
 
 /// Whether the points and the lines of a split's two ends show that its form is a direction of the node.
@@ -86,18 +88,23 @@ pub fn is_direction<'a>(
     requires points { All (IsNodePoint node.model.now node.path.now node.cut) points.now }
     ensures { IfOk result (λ shown. IsTrue shown → IsDirection (IsInNode node.entry.frame.now node.entry.work.now node.entry.cut) (dimension_of node.entry.frame.now) (rows_in node.entry.frame.now.to_work.lines) (pulled_form node.entry.frame.now.to_work (work_form node.entry.work.now cut.now.form))) }
 {
+    let _columns = node.model.columns();
     if node.frame.dimension() == 0 || points.is_empty() {
         return Ok(false);
     }
     let Some(form) = kernel_form(alloc, node, cut.form.items())? else {
         return Ok(false);
     };
-    if divisor_of(form.items()) != Some(1) {
+    let Some(divisor) = divisor_of(form.items()) else {
+        return Ok(false);
+    };
+    if divisor != 1 {
         return Ok(false);
     }
     let Some(width) = width_of(node, cut) else {
         return Ok(false);
     };
     let at_work = work_points(alloc, node.work, points)?;
-    is_thin(alloc, node, &width, &at_work)
+    let shown = is_thin(alloc, node, &width, &at_work)?;
+    Ok(shown)
 }

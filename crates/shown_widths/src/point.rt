@@ -1,5 +1,5 @@
 //! Points of a node over its work columns.
-ghost use Rattle.std.specs.Prelude.{◌≡◌, pos, map, slice_index_or, IfOk};
+ghost use Rattle.std.specs.Prelude.{◌≡◌, pos, length, map, slice_index_or, IfOk};
 ghost use Rattle.farkas_lift.specs.NodeEqualities.{work_form};
 ghost use Rattle.shown_widths.specs.Points.{work_fractions};
 
@@ -56,7 +56,8 @@ pub(crate) fn work_values(
     work: &WorkRows,
     values: &[i128],
 ) -> Result<Vec<i128>, NoMemory>
-    ensures { IfOk result (λ kept. kept.items ≡ work_form work.now values.now) }
+    ensures value { IfOk result (λ kept. kept.items ≡ work_form work.now values.now) }
+    ensures dense { IfOk result (λ kept. length kept.items ≡ length work.now.rows.box) }
 {
     let columns = work.columns();
     let mut kept = Vec::with_capacity(alloc, columns)?;

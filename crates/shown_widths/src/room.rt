@@ -7,7 +7,7 @@ ghost use Rattle.farkas_lift.specs.NodeSides.{column_sides, cut_side, row_sides}
 ghost use Rattle.farkas_lift.specs.NodeSystem.{cut_of};
 ghost use Rattle.node_point.specs.NodePoints.{Fractions};
 ghost use Rattle.node_point.specs.RationalPoints.{coordinates};
-ghost use Rattle.reformulate.specs.Substitutions.{columns_of};
+ghost use Rattle.reformulate.specs.Substitutions.{columns_of, IsSubstitution};
 ghost use Rattle.shown_widths.specs.Points.{bounded, form_of, IsLeftOver};
 ghost use Rattle.shown_widths.specs.Steps.{parts, width_parts, AllLeave, BothLeave, IsFactorIn, IsLightAlong, IsWideEnough, SideLeaves};
 
@@ -42,22 +42,22 @@ pub(crate) struct Trial<'a> {
     pub(crate) points: &'a [WorkPoint],
 }
 
-/// A power of four that is at most 4^(dimension-1).
+/// The parts of a unit in which a width is counted, times a power of four that is at most 4^(dimension-1).
 pub(crate) fn factor_in(dimension: usize) -> i128
     ensures { IsFactorIn dimension result }
 {
     if dimension > 16 {
-        1 << 32
+        1 << 48
     } else if dimension > 8 {
-        1 << 16
+        1 << 32
     } else if dimension > 4 {
-        1 << 8
+        1 << 24
     } else if dimension > 2 {
-        1 << 4
+        1 << 20
     } else if dimension > 1 {
-        1 << 2
+        1 << 18
     } else {
-        1
+        1 << 16
     }
 }
 
@@ -83,16 +83,16 @@ fn product(first: i128, second: i128, third: i128) -> Option<i128>
 }
 
 /// Whether a width is at most so many times twice the room, where the slacks come to `room` and no factor is above `reach`.
-fn is_within(width: Width, count: i128, reach: i128, room: i128) -> bool
-    ensures { IsTrue result → (width.units *ℤ (count *ℤ (pos parts *ℤ reach))) ≤ℤ (width.factor *ℤ (pos 2 *ℤ room)) }
+fn is_within(units: i128, factor: i128, count: i128, reach: i128, room: i128) -> bool
+    ensures { IsTrue result → (units *ℤ (count *ℤ (pos parts *ℤ reach))) ≤ℤ (factor *ℤ (pos 2 *ℤ room)) }
 {
     let Some(steps) = product(count, PARTS, reach) else {
         return false;
     };
-    let Some(needed) = width.units.checked_mul(steps) else {
+    let Some(needed) = units.checked_mul(steps) else {
         return false;
     };
-    match product(width.factor, 2, room) {
+    match product(factor, 2, room) {
         Some(there) => needed <= there,
         None => false,
     }
@@ -105,7 +105,9 @@ fn leaves(trial: Trial<'_>, left: LeftSide<'_>, bound: Bound, reach: i128) -> bo
 {
     match slack_sum(trial.columns, left, bound, trial.points) {
         Some(room) => {
-            room >= 0 && is_within(trial.width, trial.points.len() as i128, reach, room)
+            let Width { units, factor } = trial.width;
+            let count = trial.points.len() as i128;
+            room >= 0 && is_within(units, factor, count, reach, room)
         }
         None => false,
     }
@@ -164,16 +166,14 @@ pub(crate) fn greatest_size(entries: &[i128]) -> Option<i128>
 }
 
 /// The greatest size of a factor of a form along the vectors of a frame; none where a number leaves 128 bits.
-fn reach_along(
-    alloc: Global,
-    frame: &Frame,
-    factors: &[i128],
-) -> Result<Option<i128>, NoMemory>
+fn reach_along(alloc: Global, frame: &Frame, factors: &[i128]) -> Result<Option<i128>, NoMemory>
     requires { length factors.now ≡ columns_of frame.now }
-    ensures { IfOk result (λ found. IfSome found (λ reach. IsLightAlong reach frame.now.to_work factors.now)) }
+    ensures light { IfOk result (λ found. IfSome found (λ reach. IsLightAlong reach frame.now.to_work factors.now)) }
+    ensures shaped { IsSubstitution frame.now }
 {
+    let map = frame.to_work();
     let form = Form::of(factors.to_vec(alloc)?);
-    match frame.to_work().pull_back(alloc, &form) {
+    match map.pull_back(alloc, &form) {
         Ok(pulled) => Ok(greatest_size(pulled.form.items())),
         Err(MapStop::Wide) => Ok(None),
         Err(MapStop::NoMemory) => Err(NoMemory),
@@ -181,12 +181,7 @@ fn reach_along(
 }
 
 /// Whether both sides of a work row leave room enough; a row with equal sides has none.
-fn row_leaves(
-    alloc: Global,
-    node: Node<'_>,
-    trial: Trial<'_>,
-    i: usize,
-) -> Result<bool, NoMemory>
+fn row_leaves(alloc: Global, node: Node<'_>, trial: Trial<'_>, i: usize) -> Result<bool, NoMemory>
     requires there { i < length node.work.now.rows.rows }
     requires columns { columns_of node.frame.now ≡ length node.work.now.rows.box }
     requires width { trial.columns ≡ length node.work.now.rows.box }
@@ -211,7 +206,8 @@ fn rows_leave(alloc: Global, node: Node<'_>, trial: Trial<'_>) -> Result<bool, N
     ensures { IfOk result (λ shown. IsTrue shown → All (SideLeaves trial.entry.width node.entry.frame.now.to_work (map coordinates trial.entry.points.now) node.entry.work.now (cut_of node.entry.cut)) (joined (row_sides node.entry.work.now) (length node.entry.work.now.rows.rows))) }
 {
     for i in 0..node.work.rows() {
-        if !row_leaves(alloc, node, trial, i)? {
+        let shown = row_leaves(alloc, node, trial, i)?;
+        if !shown {
             return Ok(false);
         }
     }
@@ -240,7 +236,8 @@ fn columns_leave(node: Node<'_>, trial: Trial<'_>) -> bool
     ensures { IsTrue result → All (SideLeaves trial.entry.width node.entry.frame.now.to_work (map coordinates trial.entry.points.now) node.entry.work.now (cut_of node.entry.cut)) (joined column_sides (length node.entry.work.now.rows.box)) }
 {
     for j in 0..trial.columns {
-        if !column_leaves(node, trial, j) {
+        let shown = column_leaves(node, trial, j);
+        if !shown {
             return false;
         }
     }
@@ -274,11 +271,7 @@ fn cut_leaves(alloc: Global, node: Node<'_>, trial: Trial<'_>) -> Result<bool, N
 }
 
 /// Whether each inequality of a node leaves room enough.
-pub(crate) fn all_leave(
-    alloc: Global,
-    node: Node<'_>,
-    trial: Trial<'_>,
-) -> Result<bool, NoMemory>
+pub(crate) fn all_leave(alloc: Global, node: Node<'_>, trial: Trial<'_>) -> Result<bool, NoMemory>
     requires columns { columns_of node.frame.now ≡ length node.work.now.rows.box }
     requires width { trial.columns ≡ length node.work.now.rows.box }
     ensures { IfOk result (λ shown. IsTrue shown → AllLeave trial.entry.width node.entry.frame.now.to_work (map coordinates trial.entry.points.now) node.entry.work.now node.entry.cut) }

@@ -14,6 +14,8 @@ returns c =
     let cut = c.args.cut.now in
     let splits = c.requires.splits in
     let fits : FitsSigned w128 cut.count = search rules in
+    let most_fits : FitsSigned w128 c.in_ok-most.most = search rules in
+    let most = simp to_z-of_z at c.whole.ensures in
     let sum = simp to_z-of_z at c.in_ok-most.ensures in
     let region = IsRationalPoint node.model.now node.path.now node.cut in
     let bounded : IsBoundOn region cut.form (whole (cut.count +ℤ pos 1)) =
@@ -26,4 +28,4 @@ returns c =
       below = record { refutes = splits.below.refutes; same_cut = splits.below.cut };
       above = record { refutes = splits.above.refutes; same_cut = splits.above.cut };
     })) in
-    subst (IsBoundOn region cut.form) (sym (c.whole.ensures ∙ ap whole sum.1)) bounded
+    subst (IsBoundOn region cut.form) (sym (most ∙ ap whole sum.1)) bounded
