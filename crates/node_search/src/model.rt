@@ -42,13 +42,19 @@ impl OpenModel<'_> {
             .copied()
     }
 
-    /// The form that is the value of work column `j`.
-    pub(crate) fn column(&self, alloc: Global, j: usize) -> Result<Form<Original>, Halt> {
+    /// The factors over the work columns whose form is the value of work column `j`.
+    pub(crate) fn unit(&self, alloc: Global, j: usize) -> Result<Vec<i128>, Halt> {
         let mut factors = vec![in alloc; 0; self.map.lines().width()]?;
         let Some(factor) = factors.get_mut(j) else {
             return Err(Halt::GivesUp);
         };
         *factor = 1;
+        Ok(factors)
+    }
+
+    /// The form that is the value of work column `j`.
+    pub(crate) fn column(&self, alloc: Global, j: usize) -> Result<Form<Original>, Halt> {
+        let factors = self.unit(alloc, j)?;
         self.lifted(alloc, &factors)
     }
 }

@@ -27,6 +27,11 @@ impl Seen {
         }
     }
 
+    /// Lends the points, in the order in which they were kept.
+    pub(crate) fn points(&self) -> &[Vertex] {
+        &self.points
+    }
+
     /// Gives the points away.
     pub(crate) fn into_points(self) -> Vec<Vertex> {
         self.points
