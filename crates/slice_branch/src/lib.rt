@@ -11,6 +11,3 @@ mod work;
 
 pub use brancher::SliceBrancher;
 pub use place::{Node, Place, Settled};
-
-#[cfg(test)]
-mod tests;
