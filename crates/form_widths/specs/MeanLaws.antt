@@ -205,4 +205,3 @@ pub mean_room : (n scale reach room : ℕ) (inequalities : List Inequality) (poi
 mean_room n scale reach room inequalities points some some_scale some_reach solutions leaves =
     mean_step n scale (room_of scale reach room points) inequalities points some some_scale (room-nonneg scale reach room points some some_scale some_reach) solutions
     (All-weaker (LeavesRoom scale reach room points) (LeavesStep scale (room_of scale reach room points) points) (λ inequality. ⊎_elim (λ none. inl none) (λ slack. inr (record { reach = reach; room = room; some = some_reach; slack = slack; within = le_refl _ }))) inequalities leaves)
-

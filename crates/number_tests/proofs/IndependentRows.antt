@@ -1,4 +1,4 @@
--- Two rows that are linearly independent.
+-- Rows that are linearly independent.
 use Rattle.std.proofs.Common.{◌≡◌, ◌⊎◌, ⊎_elim, ℕ, ◌<◌, ℤ, pos, ◌+ℤ◌, ◌*ℤ◌, [], ◌∷◌, sym, subst, arith}
 use Rattle.exact_math.specs.IntegerRing.{linear}
 use Rattle.exact_math.specs.Ring.{integers}
@@ -23,32 +23,6 @@ independent_rows t a b c d is only =
 -- (4, 1) and (3, 1)
 pub four_and_three : (t : Table ℤ) → t ≡ plane_of (pos 4) (pos 1) (pos 3) (pos 1) → IsIndependent integers t.width (items_of (rows_in t)) t.rows
 four_and_three t is = independent_rows t (pos 4) (pos 1) (pos 3) (pos 1) is (λ y z e f. (omega (linear, e, f), omega (linear, e, f)))
-
--- (1, 0) and (0, 1)
-pub unit_rows : (t : Table ℤ) → t ≡ plane_of (pos 1) (pos 0) (pos 0) (pos 1) → IsIndependent integers t.width (items_of (rows_in t)) t.rows
-unit_rows t is = independent_rows t (pos 1) (pos 0) (pos 0) (pos 1) is (λ y z e f. (omega (linear, e, f), omega (linear, e, f)))
-
--- (1, 0) and (7, 1)
-pub one_and_seven : (t : Table ℤ) → t ≡ plane_of (pos 1) (pos 0) (pos 7) (pos 1) → IsIndependent integers t.width (items_of (rows_in t)) t.rows
-one_and_seven t is = independent_rows t (pos 1) (pos 0) (pos 7) (pos 1) is (λ y z e f. (omega (linear, e, f), omega (linear, e, f)))
-
--- three rows with a on the diagonal
-abbrev pub diagonal_of : ℤ → Table ℤ
-diagonal_of a = record { rows = 3; width = 3; items = a ∷ (pos 0 ∷ (pos 0 ∷ (pos 0 ∷ (a ∷ (pos 0 ∷ (pos 0 ∷ (pos 0 ∷ (a ∷ [])))))))) }
-
--- they are independent for a = 2^20 + 1
-pub large_diagonal : (t : Table ℤ) → t ≡ diagonal_of (pos 1048577) → IsIndependent integers t.width (items_of (rows_in t)) t.rows
-large_diagonal t is =
-    subst (λ s. IsIndependent integers s.width (items_of (rows_in s)) s.rows) (sym is) (λ y sums k lt.
-    let first = sums 0 (omega arith) in
-    let second = sums 1 (omega arith) in
-    let third = sums 2 (omega arith) in
-    ⊎_elim (λ (e : k ≡ 0). subst (λ i. y i ≡ pos 0) (sym e) (omega (linear, first)))
-    (λ more. ⊎_elim (λ (e : k ≡ 1). subst (λ i. y i ≡ pos 0) (sym e) (omega (linear, second))) (λ (e : k ≡ 2). subst (λ i. y i ≡ pos 0) (sym e) (omega (linear, third))) more)
-    (cases k lt))
-  where
-    cases : (k : ℕ) → k < 3 → (k ≡ 0) ⊎ ((k ≡ 1) ⊎ (k ≡ 2))
-    cases k lt = grind arith
 
 -- the one row (a, b)
 abbrev pub line_of : ℤ → ℤ → Table ℤ

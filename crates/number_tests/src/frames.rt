@@ -24,24 +24,6 @@ fn multiple(alloc: Global, a: i128, side: i128) -> Result<Equality, NoMemory>
 }
 
 #[test]
-fn two_coins(rt: HostRuntime) -> Result<(), Fail> {
-    let mut equalities = Equalities::new(rt.alloc());
-    equalities.push(equality(rt.alloc(), 3, 5, 8)?)?;
-    match Frame::of(rt.alloc(), 2, &equalities) {
-        Ok(Framed::Frame(frame)) => {
-            assert_eq!(rt; frame.dimension(), 1);
-            assert_eq!(rt; frame.to_work().base().items(), [1, 1].as_slice());
-            assert_eq!(rt; frame.to_work().lines().row(0), [-5].as_slice());
-            assert_eq!(rt; frame.to_work().lines().row(1), [3].as_slice());
-            assert_eq!(rt; frame.back().row(0), [1, 2].as_slice());
-        }
-        Ok(Framed::NoIntegerPoint(_gap)) => assert!(rt; false),
-        Err(_stop) => assert!(rt; false),
-    }
-    Ok(())
-}
-
-#[test]
 fn parity_pair(rt: HostRuntime) -> Result<(), Fail> {
     let mut equalities = Equalities::new(rt.alloc());
     equalities.push(equality(rt.alloc(), 1, 1, 1)?)?;
@@ -88,6 +70,9 @@ fn a_slice_is_a_point(rt: HostRuntime) -> Result<(), Fail> {
         Ok(Framed::Frame(frame)) => match Pair::complete(rt.alloc(), &form) {
             Ok(pair) => {
                 assert_eq!(rt; frame.dimension(), 1);
+                assert_eq!(rt; frame.to_work().base().items(), [1, 1].as_slice());
+                assert_eq!(rt; frame.to_work().lines().row(0), [-5].as_slice());
+                assert_eq!(rt; frame.back().row(0), [1, 2].as_slice());
                 match frame.slice(rt.alloc(), &pair, 2) {
                     Ok(slice) => {
                         assert_eq!(rt; slice.dimension(), 0);

@@ -6,8 +6,6 @@ mod plain_moves;
 #[cfg(test)]
 mod presolving;
 #[cfg(test)]
-mod scripted;
-#[cfg(test)]
 mod small_rows;
 #[cfg(test)]
 mod texts;

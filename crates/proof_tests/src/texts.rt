@@ -1,10 +1,7 @@
 //! Worked words, lines and printed records, by hand.
 use crate::small_rows::two_constraints;
 use farkas_rows::{CutUse, Line, Path, Use, Uses};
-use proof_text::{
-    Claim, Item, Record, numbers_behind, pairs_behind, print_head, print_record, read_factor,
-    read_item, read_number, read_proof, split_words,
-};
+use proof_text::{Claim, Record, print_head, print_record, read_number, read_proof};
 use proof_tree::holds;
 use spaces::Vect;
 use std::test::Fail;
@@ -28,36 +25,6 @@ fn reads_numbers(rt: HostRuntime) {
     for (word, number) in rows {
         assert_eq!(rt; read_number(word), number);
     }
-}
-
-#[test]
-fn tells_shapes(rt: HostRuntime) {
-    assert!(rt; pairs_behind(b'B', b"B Z-20:3 0:5 8:2").is_some());
-    assert!(rt; pairs_behind(b'B', b"B Z:1 x:y").is_some());
-    assert!(rt; pairs_behind(b'A', b"B Z-20:3").is_none());
-    assert!(rt; pairs_behind(b'B', b"B").is_none());
-    assert!(rt; pairs_behind(b'B', b"B  0:5").is_none());
-    assert!(rt; split_words(b"S T 2 0 1:1").is_some());
-    assert!(rt; split_words(b"S T 2 0").is_none());
-    assert!(rt; numbers_behind(b"OPTIMAL 4 0").is_some());
-    assert!(rt; numbers_behind(b"OPTIMAL").is_some());
-    assert!(rt; numbers_behind(b"OPTIMAL +4 0").is_none());
-}
-
-#[test]
-fn reads_words(rt: HostRuntime) {
-    assert!(rt;
-        matches!(read_item(b"Z-20:3"), Some(Item::Cut(cut)) if cut.value == -20 && cut.times == 3)
-    );
-    assert!(rt;
-        matches!(read_item(b"8:2"), Some(Item::Inequality(item)) if item.index == 8 && item.times == 2)
-    );
-    assert!(rt; read_item(b"0:05").is_none());
-    assert!(rt; read_item(b"0:0").is_none());
-    assert!(rt;
-        matches!(read_factor(b"1:-7"), Some(factor) if factor.column == 1 && factor.factor == -7)
-    );
-    assert!(rt; read_factor(b"1:0").is_none());
 }
 
 #[test]
@@ -100,13 +67,13 @@ fn reads_a_proof(rt: HostRuntime) -> Result<(), Fail> {
 fn tells_proofs(rt: HostRuntime) -> Result<(), Fail> {
     let alloc = rt.alloc();
     let rows = two_constraints(alloc)?;
-    let cases: [(&[u8], bool); 8] = [
+    let cases: [(&[u8], bool); 7] = [
         // A child on the slice x = 0, with the slice as number 8.
         (
             b"SLICER 1\nINFEASIBLE\nS P 0 1 0:1\nB 5:1\nA 4:1\nE 8:1\nDONE\n",
             true,
         ),
-        // More children than lines, the number of a slice that is not there, a multiplier with a leading 0.
+        // More children than lines, and the number of a slice that is not there.
         (
             b"SLICER 1\nINFEASIBLE\nS P 0 99999999999999999999 0:1\nB 5:1\nA 4:1\nE 8:1\nDONE\n",
             false,
@@ -115,7 +82,6 @@ fn tells_proofs(rt: HostRuntime) -> Result<(), Fail> {
             b"SLICER 1\nINFEASIBLE\nS P 0 1 0:1\nB 5:1\nA 4:1\nE 10:1\nDONE\n",
             false,
         ),
-        (b"SLICER 1\nINFEASIBLE\nE 5:01\nDONE\n", false),
         // No upper line, nothing behind `DONE`, something behind it, an open claim.
         (b"SLICER 1\nINFEASIBLE\nS P 0 0 0:1\nB 5:1\nDONE\n", false),
         (b"SLICER 1\nINFEASIBLE\nE 5:1\nDONE", false),

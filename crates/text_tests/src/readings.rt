@@ -1,64 +1,40 @@
-//! A model that is read in both layouts, and a fault. What small texts mean is worked in `examples`.
-use int_model::{Items, Model};
+//! A model that is read in fixed form, and a fault. Free form is read in the tests of integer rows and canonical texts; what
+//! small texts mean is worked in `examples` of `mps_model`.
+use int_model::Model;
 use mps_model::{FaultKind, Layout, ReadStop, TextFault, read};
 use std::alloc::Global;
-use std::process::Abort;
 use std::test::Fail;
 
-// The most bytes that a text may have.
-const MOST_BYTES: usize = 16_777_216;
-
 /// x/2 - 3 is to be least, where 2x - y is 8, x from 0 to 9 and y from -4 to 1.
-const FREE: &[u8] =
-    b"ROWS\n N c\n E r\nCOLUMNS\n x c 0.5 r 2\n y r -1\nRHS\n c 3 r 8\nBOUNDS\n UI x 9\n LI y -4\n UI y 1\nENDATA\n";
-
 const FIXED: &[u8] =
     b"ROWS\r\n N  c\r\n E  r\r\nCOLUMNS\r\n    x         c         .5             r         2\r\n    y         r         -1\r\nRHS\r\n    S         c         3              r         8\r\nBOUNDS\r\n UI B         x         9\r\n LI B         y         -4\r\n UI B         y         1\r\nENDATA\r\n";
 
-// What a text means, where no bound is handed in; nothing of a text that is too long.
+// What a short text means, where no bound is handed in.
 fn meaning_of(alloc: Global, layout: Layout, text: &[u8]) -> Option<Result<Model, ReadStop>> {
-    if text.len() > MOST_BYTES {
+    if text.len() > 1000 {
         return None;
     }
     Some(read(alloc, layout, None, text))
 }
 
-fn expect_terms(rt: &impl Abort, items: &Items, wanted: &[(u32, i128, i128)]) {
-    assert_eq!(rt; items.items().len(), wanted.len());
-    for (item, (column, num, den)) in items.items().iter().zip(wanted) {
-        assert_eq!(rt; item.column, *column);
-        assert_eq!(rt; item.factor.num(), *num);
-        assert_eq!(rt; item.factor.den(), *den);
-    }
-}
-
-fn expect_columns(rt: &impl Abort, model: &Model, wanted: &[(&[u8], i128, i128)]) {
-    assert_eq!(rt; model.columns.items().len(), wanted.len());
-    for (column, (name, low, high)) in model.columns.items().iter().zip(wanted) {
-        assert_eq!(rt; column.name.items(), *name);
-        assert_eq!(rt; column.lo.num(), *low);
-        assert_eq!(rt; column.hi.num(), *high);
-    }
-}
-
 #[test]
-fn a_model_is_read_in_both_layouts(rt: HostRuntime) -> Result<(), Fail> {
-    for (layout, text) in [(Layout::Free, FREE), (Layout::Fixed, FIXED)] {
-        let Some(model) = meaning_of(rt.alloc(), layout, text) else {
-            return Err("a long text".into());
-        };
-        let model = model?;
-        expect_columns(&rt, &model, &[(b"x", 0, 9), (b"y", -4, 1)]);
-        assert_eq!(rt; model.rows.items().len(), 1);
-        for row in model.rows.items() {
-            assert_eq!(rt; row.name.items(), b"r".as_slice());
-            assert_eq!(rt; row.lo.map(|side| side.num()), Some(8));
-            assert_eq!(rt; row.hi.map(|side| side.num()), Some(8));
-            expect_terms(&rt, &row.items, &[(0, 2, 1), (1, -1, 1)]);
-        }
-        expect_terms(&rt, &model.objective, &[(0, 1, 2)]);
-        assert_eq!(rt; model.constant.num(), -3);
-    }
+fn a_model_is_read_in_fixed_form(rt: HostRuntime) -> Result<(), Fail> {
+    let model = meaning_of(rt.alloc(), Layout::Fixed, FIXED).ok_or("a long text")??;
+    let columns = model.columns.items();
+    assert_eq!(rt; columns.len(), 2);
+    assert_eq!(rt; columns[1].name.items(), b"y".as_slice());
+    assert_eq!(rt; columns[1].lo.num(), -4);
+    assert_eq!(rt; columns[0].hi.num(), 9);
+    let rows = model.rows.items();
+    assert_eq!(rt; rows.len(), 1);
+    let items = rows[0].items.items();
+    assert_eq!(rt; items.len(), 2);
+    assert_eq!(rt; items[1].column, 1);
+    assert_eq!(rt; items[1].factor.num(), -1);
+    let costs = model.objective.items();
+    assert_eq!(rt; costs.len(), 1);
+    assert_eq!(rt; costs[0].factor.den(), 2);
+    assert_eq!(rt; model.constant.num(), -3);
     Ok(())
 }
 

@@ -7,6 +7,3 @@ mod parts;
 
 pub use answer::{ThinForm, ThinFormStop};
 pub use choice::thinnest;
-
-#[cfg(test)]
-mod tests;

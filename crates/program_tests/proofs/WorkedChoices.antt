@@ -3,7 +3,7 @@ use Rattle.std.proofs.Common.{◌≡◌, ◌+◌, ◌^◌, ◌<◌, ℕ, ℤ, po
 use Rattle.std.proofs.lemmas.List.Elements.{All-cons, All-nil}
 use Rattle.frac128.specs.Range.{IsNarrow}
 use Rattle.generalised_reduce.specs.Ready.{IsReady}
-use Rattle.norm_gauge.proofs.WorkedSystems.{triangle, triangle_bounded_from, triangle_inhabited_from, triangle_limits}
+use Rattle.program_tests.proofs.WorkedWidths.{triangle, triangle_bounded_from, triangle_inhabited_from, triangle_limits}
 use Rattle.spaces.specs.Tables.{Table}
 
 -- the sum of the sizes

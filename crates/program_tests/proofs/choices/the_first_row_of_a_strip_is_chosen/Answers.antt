@@ -1,6 +1,6 @@
-use Rattle.generalised_reduce.proofs.WorkedStrip.{strip_ready_from}
-use Rattle.thin_forms.proofs.WorkedSystems.{strip_lines_narrow}
-use Rattle.thin_forms.proofs.tests.a_skew_strip_is_thin_across.Goals as goal
+use Rattle.program_tests.proofs.WorkedStrip.{strip_ready_from}
+use Rattle.program_tests.proofs.WorkedChoices.{strip_lines_narrow}
+use Rattle.program_tests.proofs.choices.the_first_row_of_a_strip_is_chosen.Goals as goal
 
 pub thinnest-requires-clause-ready : goal.thinnest-requires-clause-ready
 thinnest-requires-clause-ready g c = strip_ready_from _ _ c.in_ok-system.ensures.0 c.in_ok-system.ensures.1

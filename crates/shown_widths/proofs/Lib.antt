@@ -1,3 +1,0 @@
-mod ColumnLaws
-mod DirectionLaws
-mod SlackLaws

@@ -1,4 +1,0 @@
-pub mod Columns
-pub mod Points
-pub mod Steps
-pub mod Thin
