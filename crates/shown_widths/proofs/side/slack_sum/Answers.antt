@@ -26,7 +26,5 @@ loop-point-preserved c =
     let added = simp to_z-of_z at c.in_ok-total.ensures in
     let count : length c.point-item.result.numerators ≡ c.args.columns = ap length (sym c.numerators.ensures) ∙ omega (arith, c.if-numerators-columns.false) in
     let here = subst (λ (n : ℕ). whole c.in_ok-slack_at.field-0 ≤ℚ (whole (pos parts) *ℚ slack (bounded (form_of n c.args.left) c.args.bound) (coordinates c.point-item.result))) count c.in_ok-slack_at.ensures in
-    let same : to_z w128 c.loop-point.total-bits ≡ c.loop-point.total = cc c.loop-point.total-is in
-    let before = subst (λ (z : ℤ). whole z ≤ℚ (whole (pos parts) *ℚ sum rationals (map (slack i) (map coordinates (take c.loop-point.point-index c.args.points.now))))) same c.loop-point.invariant in
     simp to_z-of_z (subst (λ (z : ℤ). whole z ≤ℚ (whole (pos parts) *ℚ sum rationals (map (slack i) (map coordinates (take (c.loop-point.point-index + 1) c.args.points.now))))) (sym added.1)
-    (count_more parts (slack i) coordinates c.args.points.now c.loop-point.point-index c.point-item.result c.loop-point.total c.in_ok-slack_at.field-0 c.loop-point-test.true (sym c.point-item.is) before here))
+    (count_more parts (slack i) coordinates c.args.points.now c.loop-point.point-index c.point-item.result (to_z w128 c.loop-point.total-bits) c.in_ok-slack_at.field-0 c.loop-point-test.true (sym c.point-item.is) c.loop-point.invariant here))
