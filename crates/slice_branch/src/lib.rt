@@ -1,26 +1,11 @@
 //! The search by reformulation: a node's integer points are those of a frame, and it is split along thin directions of it.
 #![tactic(auto)]
 
-mod binary;
 mod brancher;
 mod check;
-mod directions;
-mod dive;
-mod ends;
-mod forms;
 mod frames;
 mod gap;
-mod halt;
-mod model;
-mod near;
-mod nearest;
-mod parts;
 mod place;
-mod points;
-mod quotient;
-mod row_forms;
-mod seen;
-mod short;
 mod shown;
 mod work;
 

@@ -1,0 +1,4 @@
+pub mod WorkedPrograms
+pub mod WorkedWidths
+pub mod WorkedStrip
+pub mod WorkedChoices
