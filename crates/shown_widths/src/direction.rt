@@ -89,7 +89,10 @@ pub fn is_direction<'a>(
     ensures { IfOk result (λ shown. IsTrue shown → IsDirection (IsInNode node.entry.frame.now node.entry.work.now node.entry.cut) (dimension_of node.entry.frame.now) (rows_in node.entry.frame.now.to_work.lines) (pulled_form node.entry.frame.now.to_work (work_form node.entry.work.now cut.now.form))) }
 {
     let _columns = node.model.columns();
-    if node.frame.dimension() == 0 || points.is_empty() {
+    if points.is_empty() {
+        return Ok(false);
+    }
+    if node.frame.dimension() == 0 {
         return Ok(false);
     }
     let Some(form) = kernel_form(alloc, node, cut.form.items())? else {

@@ -1,4 +1,4 @@
-use Rattle.std.proofs.Common.{rules, ◌≡◌, ℕ, ℤ, pos, ◌<◌, List, length, ap, sym, subst, ◌∙◌, arith}
+use Rattle.std.proofs.Common.{rules, ◌≡◌, ℕ, zero, suc, ◌==◌, Bool, true, false, refl, ℤ, pos, ◌<◌, List, length, ap, sym, subst, ◌∙◌, arith}
 use Rattle.std.specs.Prelude.{Option, IfSome}
 use Rattle.exact_math.specs.IntegerRing.{linear}
 use Rattle.node_point.specs.NodePoints.{Fractions}
@@ -14,12 +14,17 @@ use Rattle.shown_widths.proofs.direction.is_direction.Goals as goal
 one_of : (n : ℕ) → pos n ≡ pos 1 → n ≡ 1
 one_of n e = omega linear
 
+-- a number that is not 0
+some_of : (n : ℕ) (b : Bool) → b ≡ (n == 0) → b ≡ false → 0 < n
+some_of zero b e f = absurd (cc)
+some_of (suc n) b e f = omega arith
+
 pub returns : goal.returns
 returns c = λ true.
     let node = c.args.node in
     let cut = c.args.cut.now in
     let to_work = c.args.node.frame.now.to_work in
-    let some : 0 < length c.args.points.now = search rules in
+    let some : 0 < length c.args.points.now = some_of (length c.args.points.now) _ c.is_empty.ensures c.if-is_empty.false in
     let some_coordinates : 0 < dimension_of c.args.node.frame.now = search rules in
     let kernel : c.in-Some.form ≡ pulled_form to_work (work_form c.args.node.work.now c.items.result.now) = subst (λ (o : Option (List ℤ)). IfSome o (λ (form : List ℤ). form ≡ pulled_form to_work (work_form c.args.node.work.now c.items.result.now))) c.in-Some.is c.in_ok-form.ensures in
     let form_is = c.items-2.ensures ∙ kernel ∙ ap (λ (f : List ℤ). pulled_form to_work (work_form c.args.node.work.now f)) c.items.ensures in
