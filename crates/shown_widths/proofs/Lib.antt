@@ -1,0 +1,5 @@
+mod ColumnLaws
+mod DirectionLaws
+mod ShownLaws
+mod SideLaws
+mod SlackLaws
