@@ -14,7 +14,7 @@ use Rattle.slice_branch.specs.declared.place.Node.{Node}
 use Rattle.slice_branch.specs.declared.place.Place.{Place}
 use Rattle.slice_branch.specs.declared.place.Place.TheVariants.{Settled, Framed, Plain}
 use Rattle.slice_branch.specs.Framed.{IsAllowed, IsFramedMove, IsMarked, IsThinMove}
-use Rattle.slice_branch.specs.NodeFrames.{IsNodeFrame}
+use Rattle.node_regions.specs.NodeFrames.{IsNodeFrame}
 use Rattle.slice_branch.specs.Places.{height_of, is_plain_place, plain_from, IsKept, IsPathWithin, IsPlainFrom, IsSettledBy, StandsFor}
 use Rattle.slice_branch.proofs.PlaceLaws.{begins_plain, below_framed, longer, lower_framed, move_of_framed, turns_lower, turns_plain, widest_is_small}
 use Rattle.slice_branch.proofs.PlaceLaws as place_laws

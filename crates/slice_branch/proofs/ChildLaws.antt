@@ -16,7 +16,7 @@ use Rattle.reformulate.specs.Substitutions.{Substitution, columns_of, IsSubstitu
 use Rattle.reformulate.specs.declared.equality.Equality.{Equality}
 use Rattle.presolve_map.specs.Columns.{IsColumnMap}
 use Rattle.presolve_map.specs.ReducedRows.{ReducedRows, IsReduced}
-use Rattle.slice_branch.specs.NodeFrames.{IsKeptForm, IsNodeFrame}
+use Rattle.node_regions.specs.NodeFrames.{IsKeptForm, IsNodeFrame}
 use Rattle.slice_branch.proofs.KeptForms.{kept-constant, pulled-kept, work_form-kept}
 use Rattle.slice_branch.proofs.ReachLaws.{slice_reached}
 

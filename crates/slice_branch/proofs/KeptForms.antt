@@ -20,7 +20,7 @@ use Rattle.presolve_map.specs.Columns.{column_lines, kept, kept_columns, open_fl
 use Rattle.presolve_map.specs.ReducedRows.{ReducedRows, IsReduced}
 use Rattle.presolve_map.proofs.KeptLaws.{length-flags, length-kept}
 use Rattle.presolve_map.proofs.PointLaws.{FlagsOf, flags-of_box}
-use Rattle.slice_branch.specs.NodeFrames.{IsKeptForm}
+use Rattle.node_regions.specs.NodeFrames.{IsKeptForm}
 
 unit-same : (n j : ℕ) → j < n → get_or (unit n j) j (pos 0) ≡ pos 1
 unit-same n j h = get_or-set_same (zeros integers n) j (pos 1) (pos 0) (omega (arith, length-replicate n (pos 0)))

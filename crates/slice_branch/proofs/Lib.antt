@@ -1,5 +1,6 @@
 mod BrancherLaws
 mod ChildLaws
+mod FramedLaws
 mod KeptForms
 mod LiftedForms
 mod PlaceLaws

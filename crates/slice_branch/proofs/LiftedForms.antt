@@ -20,7 +20,7 @@ use Rattle.presolve_map.specs.Lifted.{lifted_form}
 use Rattle.presolve_map.specs.ReducedRows.{ReducedRows, IsReduced}
 use Rattle.presolve_map.proofs.KeptLaws.{length-kept}
 use Rattle.presolve_map.proofs.PointLaws.{count-any}
-use Rattle.slice_branch.specs.NodeFrames.{IsKeptForm}
+use Rattle.node_regions.specs.NodeFrames.{IsKeptForm}
 use Rattle.slice_branch.specs.ThinMoves.{IsGapForm}
 use Rattle.slice_branch.proofs.KeptForms.{work_form-kept}
 

@@ -19,7 +19,7 @@ use Rattle.slice_branch.specs.Framed.{IsFramedMove, IsAllowed, IsMarked, IsThinM
 use Rattle.node_search.specs.declared.directions.ends.Direction.{Direction}
 use Rattle.slice_branch.specs.declared.place.Place.{Place}
 use Rattle.slice_branch.specs.declared.place.Place.TheVariants as places
-use Rattle.slice_branch.specs.Directions.{IsDirection}
+use Rattle.slice_branch.specs.ClosedEnds.{HasClosedEnds}
 use Rattle.slice_branch.specs.Places.{IsFramedPath, IsPathWithin, IsPlainFrom, IsRootPlace, StandsFor}
 use Rattle.slice_branch.proofs.PlainLaws.{within-more}
 
@@ -106,7 +106,7 @@ pub turns_lower : (rows : WholeRows) (path : List Slice) → IsFramedPath rows p
 turns_lower rows path framed = let s = framed.short in omega (arith, s)
 
 -- a direction that passes its checks makes a split
-pub direction_splits : (rows : WholeRows) (path : List Slice) (best : Option ℤ) (d : Direction) → widest rows.box ≤ 2 ^ 97 → IsDirection rows best path d → SplitsUnder rows best path (record { form = d.form; lo = d.lo; count = d.count; below = d.below; above = d.above; mark = Thin })
+pub direction_splits : (rows : WholeRows) (path : List Slice) (best : Option ℤ) (d : Direction) → widest rows.box ≤ 2 ^ 97 → HasClosedEnds rows best path d → SplitsUnder rows best path (record { form = d.form; lo = d.lo; count = d.count; below = d.below; above = d.above; mark = Thin })
 direction_splits rows path best d small h = record {
   form = h.form;
   lo = h.lo;

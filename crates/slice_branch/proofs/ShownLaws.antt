@@ -14,11 +14,9 @@ use Rattle.proof_tree.specs.declared.tree.Cut.{Cut}
 use Rattle.proof_tree.specs.Moves.{SplitsUnder}
 use Rattle.form_widths.specs.Slices.{AreSlices, ReachesEnds}
 use Rattle.form_widths.specs.NodeLineLaws.{node_slices}
-use Rattle.reformulate.specs.Substitutions.{Substitution}
-use Rattle.slice_branch.specs.Framed.{IsThinMove}
-use Rattle.slice_branch.specs.NodeFrames.{IsKeptForm, IsNodeFrame}
+use Rattle.node_regions.specs.NodeFrames.{IsKeptForm}
 use Rattle.slice_branch.specs.SeenPoints.{ArePoints, IsAtLeastAt, IsAtMostAt, ShowEnds}
-use Rattle.slice_branch.specs.ThinMoves.IsThinBy.{along}
+use Rattle.slice_branch.specs.ThinMoves.{IsSliced}
 
 module _ (rows : WholeRows) (path : List Slice) (cut : Option ℤ) where
   -- a point of the node is one over the rational numbers
@@ -72,21 +70,21 @@ module _ (rows : WholeRows) (path : List Slice) (cut : Option ℤ) where
       })
       (reaches_shown c.form c.lo c.count points are show)
 
-  -- and the split into them is thin
-  pub thin_shown : (frame : Substitution) (points : List Fractions) (form : List ℤ) (lo count : ℤ) (result : Option Cut) → IsWithinLimits rows → HasForms (length rows.box) path → IsNodeFrame rows path frame → ArePoints rows path cut points
-      → (pos 1 ≤ℤ count → length path < length rows.box) → IsKeptForm rows.box form → ShowEnds form lo count points → IfSome result (SplitsUnder rows cut path)
-      → IfSome result (λ (c : Cut). c.form ≡ form) → IfSome result (λ (c : Cut). c.lo ≡ lo) → IfSome result (λ (c : Cut). c.count ≡ count) → IfSome result (IsThinMove rows path cut)
-  thin_shown frame points form lo count None limits forms node are few kept show splits is_form is_lo is_count = tt
-  thin_shown frame points form lo count (Some c) limits forms node are few kept show splits is_form is_lo is_count =
+  -- so the split is one into exact slices
+  pub sliced_shown : (points : List Fractions) (form : List ℤ) (lo count : ℤ) (result : Option Cut) → IsWithinLimits rows → HasForms (length rows.box) path → ArePoints rows path cut points
+      → IsKeptForm rows.box form → ShowEnds form lo count points → IfSome result (SplitsUnder rows cut path)
+      → IfSome result (λ (c : Cut). c.form ≡ form) → IfSome result (λ (c : Cut). c.lo ≡ lo) → IfSome result (λ (c : Cut). c.count ≡ count) → IfSome result (IsSliced rows path cut)
+  sliced_shown points form lo count None limits forms are kept show splits is_form is_lo is_count = tt
+  sliced_shown points form lo count (Some c) limits forms are kept show splits is_form is_lo is_count =
       let same_form = subst (λ (f : List ℤ). ShowEnds f lo count points) (sym is_form) show in
       let same_lo = subst (λ (l : ℤ). ShowEnds c.form l count points) (sym is_lo) same_form in
       let show_here = subst (λ (n : ℤ). ShowEnds c.form c.lo n points) (sym is_count) same_lo in
       record {
-        short = subst (λ (n : ℤ). pos 1 ≤ℤ n → length path < length rows.box) (sym is_count) few;
-        cause = along (record {
-          frame = frame;
-          of_node = node;
-          kept = subst (IsKeptForm rows.box) (sym is_form) kept;
-          slices = slices_are_shown c points limits forms splits are show_here;
-        });
+        kept = subst (IsKeptForm rows.box) (sym is_form) kept;
+        slices = slices_are_shown c points limits forms splits are show_here;
       }
+
+  -- and only where the path is short
+  pub short_shown : (count : ℤ) (result : Option Cut) → (pos 1 ≤ℤ count → length path < length rows.box) → IfSome result (λ (c : Cut). c.count ≡ count) → IfSome result (λ (c : Cut). pos 1 ≤ℤ c.count → length path < length rows.box)
+  short_shown count None few is_count = tt
+  short_shown count (Some c) few is_count = subst (λ (n : ℤ). pos 1 ≤ℤ n → length path < length rows.box) (sym is_count) few

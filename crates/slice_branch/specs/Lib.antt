@@ -1,7 +1,6 @@
-pub mod Directions
+pub mod ClosedEnds
 pub mod Framed
 pub mod Marked
-pub mod NodeFrames
 pub mod Places
 pub mod Roots
 pub mod SeenPoints

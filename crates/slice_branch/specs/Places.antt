@@ -6,7 +6,7 @@ use Rattle.farkas_rows.specs.declared.path.Slice.{Slice}
 use Rattle.farkas_rows.specs.Refutes.{HasForms}
 use Rattle.proof_tree.specs.Trees.{IsOfSize}
 use Rattle.plain_slices.specs.Shut.{IsFixedBy}
-use Rattle.slice_branch.specs.NodeFrames.{IsNodeFrame}
+use Rattle.node_regions.specs.NodeFrames.{IsNodeFrame}
 use Rattle.slice_branch.specs.ThinMoves.{IsGapForm}
 use Rattle.slice_branch.specs.declared.place.Place.{Place}
 use Rattle.slice_branch.specs.declared.place.Place.TheVariants.{Settled, Framed, Plain}

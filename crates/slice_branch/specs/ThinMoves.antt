@@ -2,15 +2,19 @@
 use Rattle.std.specs.Prelude.{◌≡◌, ℤ, pos, List, [], length, Option}
 use Rattle.whole_rows.specs.WholeRows.{WholeRows}
 use Rattle.farkas_rows.specs.declared.path.Slice.{Slice}
+use Rattle.spaces.specs.Maps.{pulled_form}
+use Rattle.spaces.specs.Tables.{rows_in}
 use Rattle.node_point.specs.RationalPoints.{IsRationalPoint}
+use Rattle.form_widths.specs.Directions.{IsDirection}
 use Rattle.form_widths.specs.Slices.{AreSlices}
 use Rattle.proof_tree.specs.declared.tree.Cut.{Cut}
 use Rattle.reformulate.specs.Gaps.{IsGap}
-use Rattle.reformulate.specs.Substitutions.{Substitution}
+use Rattle.reformulate.specs.Substitutions.{Substitution, dimension_of}
 use Rattle.reformulate.specs.declared.gap.Gap.{Gap}
 use Rattle.presolve_map.specs.ReducedRows.{ReducedRows, IsReduced}
 use Rattle.farkas_lift.specs.NodeEqualities.{node_equalities, work_form}
-use Rattle.slice_branch.specs.NodeFrames.{IsKeptForm, IsNodeFrame}
+use Rattle.node_regions.specs.NodeFrames.{IsKeptForm, IsNodeFrame}
+use Rattle.node_regions.specs.NodeRegions.{IsInNode}
 
 -- Over the columns that presolving keeps the form is that of a gap of the root's equalities: whole times of them give so many
 -- times the form as the gap's divisor says, and a side that the divisor does not divide. The next whole number above their
@@ -30,13 +34,23 @@ pub record IsGapSplit (rows : WholeRows) (path : List Slice) (cut : Cut) : Type 
   pub none : cut.count ≡ pos 0
   pub gap : IsGapForm rows cut.form cut.lo
 
--- A split of a node that has a reduced frame of its equalities, along a form on the columns that presolving keeps. Its slices are
--- exactly the whole numbers between two values that the form takes at rational points of the node.
+-- Along a form on the columns that presolving keeps: the slices are exactly the whole numbers between two values that the form
+-- takes at rational points of the node.
+pub record IsSliced (rows : WholeRows) (path : List Slice) (best : Option ℤ) (cut : Cut) : Type 0 where
+  pub kept : IsKeptForm rows.box cut.form
+  pub slices : AreSlices (IsRationalPoint rows path best) cut.form cut.lo cut.count
+
+-- in the coordinates of a frame of the node, the form is a direction of the node's region, where each column that is kept is one
+-- of the lines
+abbrev pub IsDirectionOf : Substitution → ReducedRows → Option ℤ → Cut → Type 0
+IsDirectionOf frame work best cut = IsDirection (IsInNode frame work best) (dimension_of frame) (rows_in frame.to_work.lines) (pulled_form frame.to_work (work_form work cut.form))
+
+-- a split of a node that has a reduced frame of its equalities, into exact slices along a direction
 pub record IsAlong (rows : WholeRows) (path : List Slice) (best : Option ℤ) (cut : Cut) : Type 0 where
   pub frame : Substitution
   pub of_node : IsNodeFrame rows path frame
-  pub kept : IsKeptForm rows.box cut.form
-  pub slices : AreSlices (IsRationalPoint rows path best) cut.form cut.lo cut.count
+  pub sliced : IsSliced rows path best cut
+  pub direction : IsDirectionOf frame of_node.work best cut
 
 -- one of the two
 pub data IsThinBy (rows : WholeRows) (path : List Slice) (best : Option ℤ) (cut : Cut) : Type 0 where

@@ -6,7 +6,7 @@ ghost use Rattle.proof_tree.specs.Trees.{on_slice};
 ghost use Rattle.farkas_rows.specs.Refutes.{HasForms};
 ghost use Rattle.farkas_rows.specs.declared.path.Slice.{Slice};
 ghost use Rattle.slice_branch.specs.Framed.{IsFramedMove};
-ghost use Rattle.slice_branch.specs.NodeFrames.{IsNodeFrame};
+ghost use Rattle.node_regions.specs.NodeFrames.{IsNodeFrame};
 ghost use Rattle.slice_branch.specs.Places.{is_plain_place, plain_from, IsKept, IsRootPlace, IsSettledBy, StandsFor};
 ghost use Rattle.slice_branch.specs.Roots.{IsRootOf, IsRootOf-prop};
 ghost use Rattle.slice_branch.specs.ThinMoves.{IsGapForm};

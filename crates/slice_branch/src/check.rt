@@ -6,7 +6,7 @@ ghost use Rattle.farkas_rows.specs.Refutes.{HasForms, IsDense};
 ghost use Rattle.proof_tree.specs.declared.tree.Mark.TheVariants.{Thin};
 ghost use Rattle.proof_tree.specs.Moves.{widest, ClosesUnder, SplitsUnder};
 ghost use Rattle.proof_tree.specs.Trees.{IsSplitForm};
-ghost use Rattle.slice_branch.specs.Directions.{IsDirection};
+ghost use Rattle.slice_branch.specs.ClosedEnds.{HasClosedEnds};
 
 use farkas_rows::{CutUse, End, Line, Path, refutes};
 use node_search::Direction;
@@ -66,7 +66,7 @@ fn is_split_form(rows: &DenseRows, form: &[i128]) -> bool
 }
 
 /// Whether the values between the two ends are at most `most` whole numbers from `lo` on, and both ends are closed.
-fn is_direction(
+fn has_closed_ends(
     rows: &DenseRows,
     best: Option<i128>,
     path: &Path,
@@ -76,7 +76,7 @@ fn is_direction(
     requires forms { HasForms (length rows.now.box) path.now }
     requires most { most ≡ pos (widest rows.now.box + 1) }
     requires small { widest rows.now.box ≤ 2 ^ 97 }
-    ensures { IsTrue result → IsDirection rows.now best path.now direction.now }
+    ensures { IsTrue result → HasClosedEnds rows.now best path.now direction.now }
 {
     let Direction {
         form,
@@ -117,7 +117,7 @@ pub(crate) fn split_of(
     ensures lo { IfSome result (λ cut. cut.lo ≡ direction.lo) }
     ensures count { IfSome result (λ cut. cut.count ≡ direction.count) }
 {
-    if !is_direction(rows, best, path, most, &direction) {
+    if !has_closed_ends(rows, best, path, most, &direction) {
         return None;
     }
     let Direction {

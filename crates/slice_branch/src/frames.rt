@@ -6,7 +6,7 @@ ghost use Rattle.spaces.specs.Maps.{pulled_constant, pulled_form};
 ghost use Rattle.unimodular_pair.specs.Gathering.{IsGatheredPair};
 ghost use Rattle.reformulate.specs.Slices.{IsSlice};
 ghost use Rattle.reformulate.specs.Substitutions.{dimension_of, IsSubstitution};
-ghost use Rattle.slice_branch.specs.NodeFrames.{IsKeptFactor, IsKeptForm, IsNodeFrame};
+ghost use Rattle.node_regions.specs.NodeFrames.{IsKeptFactor, IsKeptForm, IsNodeFrame};
 
 use crate::place::Node;
 use node_search::{Halt, OpenModel, Sliced, divisor_of};

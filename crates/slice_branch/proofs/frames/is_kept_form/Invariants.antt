@@ -1,6 +1,6 @@
 use Rattle.std.proofs.Common.{◌↔◌, drop}
 use Rattle.std.specs.List.{AllZip}
-use Rattle.slice_branch.specs.NodeFrames.{IsKeptFactor}
+use Rattle.node_regions.specs.NodeFrames.{IsKeptFactor}
 use Rattle.slice_branch.proofs.frames.is_kept_form.Given as goal
 
 abbrev pub invariant-loop-j : goal.invariant-loop-j
