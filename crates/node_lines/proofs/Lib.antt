@@ -2,3 +2,4 @@ pub mod FractionLaws
 pub mod NodeNumbers
 pub mod NodeSums
 pub mod Refuting
+pub mod WorkedNode

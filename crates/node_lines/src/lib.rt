@@ -8,3 +8,6 @@ mod node;
 pub use halt::LineHalt;
 pub use lines::{empty_line, end_line};
 pub use node::Node;
+
+#[cfg(test)]
+mod tests;
