@@ -146,12 +146,14 @@ def translated(text, name, crates):
             reader.skip_group()
         elif token == "use":
             out.append("use " + use_path(reader, name, crates))
+        elif token == "crate" and reader.peek() == "::" and reader.peek(1) == "kit":
+            out.append("crate")
         elif token == "crate" and reader.peek() == "::":
             out.append("crate::" + name)
         elif token == "vec" and reader.peek() == "!" and reader.peek(2) == "in":
             reader.take(), reader.take(), reader.take()
             out.append("kit_vec![")
-        elif token in ("to_vec", "collect") and last == "." and reader.peek(1) != ")":
+        elif token in ("to_vec", "collect") and last == "." and reader.peek() == "(" and reader.peek(1) != ")":
             out.append("kit_" + token)
         else:
             out.append(token)

@@ -53,7 +53,7 @@ fn look_below<'a>(
         return Ok(None);
     }
     let form = model.lifted(alloc, thin.forms.row(level - 1))?;
-    let direction = measured(alloc, dict, &mut Seen::new(alloc), form)?;
+    let direction = measured(alloc, dict, &mut Seen::new(alloc), form)?.direction;
     let mut values = values_near(&direction, vertex).ok_or(Halt::GivesUp)?;
     for _value in 0..MOST_VALUES {
         let Some(value) = values.next() else {

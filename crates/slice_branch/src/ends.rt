@@ -3,7 +3,8 @@ use crate::halt::Halt;
 use crate::quotient::{ceil, floor};
 use crate::seen::{Seen, value_at};
 use farkas_rows::Line;
-use range_dict::{RangeDict, Vertex};
+use frac128::Frac;
+use range_dict::{Extreme, RangeDict, Vertex};
 use spaces::{Form, Original};
 use std::alloc::Global;
 
@@ -63,27 +64,47 @@ fn negate(factors: &mut [i128]) -> Option<()> {
     Some(())
 }
 
+/// A direction with its width: the greatest less the least value at the rational points of the node; none where that leaves
+/// 128 bits.
+#[derive(Debug, Drop)]
+pub(crate) struct Measured {
+    pub(crate) direction: Direction,
+    pub(crate) width: Option<Frac>,
+}
+
+/// The difference of two extremes.
+fn width_between(least: &Extreme, greatest: &Extreme) -> Option<Frac> {
+    if least.vertex.denominator <= 0 || greatest.vertex.denominator <= 0 {
+        return None;
+    }
+    let low = Frac::new(least.value, least.vertex.denominator).ok()?;
+    let high = Frac::new(greatest.value, greatest.vertex.denominator).ok()?;
+    high.sub(&low).ok()
+}
+
 /// Finds the ends of a form at the node of a dictionary that has a point. The points where it has them are kept.
 pub(crate) fn measured(
     alloc: Global,
     dict: &mut RangeDict,
     seen: &mut Seen,
     form: Form<Original>,
-) -> Result<Direction, Halt> {
+) -> Result<Measured, Halt> {
     let least = dict.least(alloc, form.items())?;
     let lo = ceil(least.value, least.vertex.denominator).ok_or(Halt::GivesUp)?;
-    seen.add(least.vertex)?;
     let greatest = dict.greatest(alloc, form.items())?;
     let last = floor(greatest.value, greatest.vertex.denominator).ok_or(Halt::GivesUp)?;
-    seen.add(greatest.vertex)?;
     let count = count_between(lo, last).ok_or(Halt::GivesUp)?;
-    Ok(Direction {
+    let width = width_between(&least, &greatest);
+    seen.add(least.vertex)?;
+    seen.add(greatest.vertex)?;
+    let direction = Direction {
         form,
         lo,
         count,
         below: least.line,
         above: greatest.line,
-    })
+    };
+    Ok(Measured { direction, width })
 }
 
 /// How many whole numbers there are from `lo` to `last`.

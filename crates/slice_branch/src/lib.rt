@@ -3,7 +3,9 @@
 
 mod binary;
 mod brancher;
+mod candidates;
 mod check;
+mod choice;
 mod directions;
 mod dive;
 mod ends;
@@ -14,6 +16,8 @@ mod halt;
 mod model;
 mod near;
 mod nearest;
+mod outlook;
+mod pairs;
 mod parts;
 mod place;
 mod points;
@@ -22,6 +26,7 @@ mod row_forms;
 mod seen;
 mod short;
 mod shown;
+mod spread;
 mod work;
 
 pub use brancher::SliceBrancher;

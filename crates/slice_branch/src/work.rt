@@ -9,7 +9,8 @@ ghost use Rattle.slice_branch.specs.NodeFrames.{IsNodeFrame};
 ghost use Rattle.slice_branch.specs.SeenPoints.{ArePoints};
 
 use crate::check::{closes_under, split_of};
-use crate::directions::{Thin, thin_direction};
+use crate::choice::thin_direction;
+use crate::directions::Thin;
 use crate::dive::{Look, look_through};
 use crate::ends::Direction;
 use crate::frames::is_kept_form;

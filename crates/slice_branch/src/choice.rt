@@ -1,0 +1,283 @@
+//! The choice of the direction along which a node is split.
+use crate::binary::binary_direction;
+use crate::candidates::Candidates;
+use crate::directions::{Thin, column_form, further_form};
+use crate::ends::Direction;
+use crate::frames::divisor_of;
+use crate::halt::{Halt, passed_over};
+use crate::model::OpenModel;
+use crate::near::Task;
+use crate::outlook::{Judges, rank_of};
+use crate::pairs::{lying, weigh_pairs};
+use crate::seen::Seen;
+use crate::spread::{centre, rest_beside, values_of};
+use range_dict::RangeDict;
+use std::alloc::Global;
+
+/// How many candidates are tried by the programs of their slices.
+const MOST_TRIED: usize = 4;
+
+/// How many slices of a candidate are tried at most.
+const MOST_SLICES: i128 = 8;
+
+/// Measures the free columns.
+fn weigh_columns(
+    alloc: Global,
+    model: &OpenModel,
+    thin: Thin<'_>,
+    dict: &mut RangeDict,
+    seen: &mut Seen,
+    candidates: &mut Candidates,
+) -> Result<(), Halt> {
+    for column in 0..thin.forms.width() {
+        if let Some(form) = column_form(alloc, model, thin, column)? {
+            candidates.weigh_column(alloc, dict, seen, form)?;
+        }
+    }
+    Ok(())
+}
+
+/// Weighs the coordinates of a frame, the last one first.
+fn weigh_coordinates(
+    alloc: Global,
+    model: &OpenModel,
+    thin: Thin<'_>,
+    dict: &mut RangeDict,
+    seen: &mut Seen,
+    candidates: &mut Candidates,
+) -> Result<(), Halt> {
+    let forms = thin.forms;
+    for k in (0..forms.rows()).rev() {
+        if candidates.is_settled() {
+            break;
+        }
+        let form = model.lifted(alloc, forms.row(k))?;
+        candidates.weigh(alloc, dict, seen, form)?;
+    }
+    Ok(())
+}
+
+/// Weighs the further forms.
+fn weigh_further(
+    alloc: Global,
+    model: &OpenModel,
+    thin: Thin<'_>,
+    dict: &mut RangeDict,
+    seen: &mut Seen,
+    candidates: &mut Candidates,
+) -> Result<(), Halt> {
+    for factors in thin.further.iter().rev() {
+        if candidates.is_settled() {
+            break;
+        }
+        if let Some(form) = passed_over(further_form(alloc, model, thin, factors))? {
+            candidates.weigh(alloc, dict, seen, form)?;
+        }
+    }
+    Ok(())
+}
+
+/// Weighs the free columns of two values, where they have fewer slices than what is known.
+fn weigh_binaries(
+    alloc: Global,
+    model: &OpenModel,
+    task: Task<'_>,
+    thin: Thin<'_>,
+    dict: &RangeDict,
+    seen: &mut Seen,
+    candidates: &mut Candidates,
+) -> Result<(), Halt> {
+    let lines = thin.frame.to_work().lines();
+    for j in 0..lines.rows() {
+        if candidates.count().is_some_and(|count| count <= 2) {
+            break;
+        }
+        if divisor_of(lines.row(j)) == Some(1)
+            && let Some(direction) = passed_over(binary_direction(
+                alloc, model, task, dict, seen, j,
+            ))?
+        {
+            candidates.take(alloc, direction)?;
+        }
+    }
+    Ok(())
+}
+
+/// The candidates with the fewest slices among the coordinates of a frame, the further forms, sums and differences of two
+/// coordinates, and the thinnest free columns. None is wider than a free column whose width is known.
+fn candidates_of(
+    alloc: Global,
+    model: &OpenModel,
+    task: Task<'_>,
+    thin: Thin<'_>,
+    dict: &mut RangeDict,
+    seen: &mut Seen,
+) -> Result<Candidates, Halt> {
+    let mut candidates = Candidates::new(alloc);
+    weigh_columns(alloc, model, thin, dict, seen, &mut candidates)?;
+    weigh_coordinates(alloc, model, thin, dict, seen, &mut candidates)?;
+    weigh_further(alloc, model, thin, dict, seen, &mut candidates)?;
+    if !candidates.is_settled() {
+        weigh_pairs(alloc, model, thin, dict, seen, &mut candidates)?;
+    }
+    candidates.take_thinnest(alloc)?;
+    if candidates.is_blurred {
+        weigh_binaries(alloc, model, task, thin, dict, seen, &mut candidates)?;
+    }
+    Ok(candidates)
+}
+
+/// What a split along a direction leaves of the variance of the short form that then varies least, at the points that were seen:
+/// the sum of squares.
+fn rest_of(
+    alloc: Global,
+    seen: &Seen,
+    forms: &[Option<Vec<i128>>],
+    direction: &Direction,
+) -> Result<i128, Halt> {
+    let Some(mut along) = values_of(alloc, seen, direction.form.items())? else {
+        return Ok(i128::MAX);
+    };
+    if centre(&mut along).is_none() {
+        return Ok(i128::MAX);
+    }
+    let blur = (along.len() as i128).saturating_mul(4);
+    let mut least = i128::MAX;
+    for values in forms {
+        let Some(values) = values else {
+            continue;
+        };
+        if let Some(rest) = rest_beside(values, &along)
+            && rest > blur
+        {
+            least = least.min(rest);
+        }
+    }
+    Ok(least)
+}
+
+/// The rest of each direction's split.
+fn rests_of(
+    alloc: Global,
+    model: &OpenModel,
+    thin: Thin<'_>,
+    seen: &Seen,
+    directions: &[Direction],
+) -> Result<Vec<Option<i128>>, Halt> {
+    let mut forms = lying(alloc, model, thin, seen)?.values;
+    for values in forms.iter_mut() {
+        if let Some(values) = values
+            && centre(values).is_none()
+        {
+            return Err(Halt::GivesUp);
+        }
+    }
+    let mut rests = Vec::with_capacity(alloc, directions.len())?;
+    for direction in directions {
+        rests.push(Some(rest_of(alloc, seen, &forms, direction)?))?;
+    }
+    Ok(rests)
+}
+
+/// The place of the least number that is left, which is taken away.
+fn take_least(rests: &mut [Option<i128>]) -> Option<usize> {
+    let mut best: Option<(usize, i128)> = None;
+    for i in 0..rests.len() {
+        if let Some(rest) = rests[i]
+            && best.is_none_or(|(_place, least)| rest < least)
+        {
+            best = Some((i, rest));
+        }
+    }
+    let (place, _least) = best?;
+    rests[place] = None;
+    Some(place)
+}
+
+/// The forms by which slices are judged: the short forms of the coordinates, and the free columns.
+fn judges_of(alloc: Global, model: &OpenModel, thin: Thin<'_>) -> Result<Judges, Halt> {
+    let mut columns = Vec::new(alloc);
+    for j in 0..thin.forms.width() {
+        if let Some(form) = column_form(alloc, model, thin, j)? {
+            columns.push(form)?;
+        }
+    }
+    let mut forms = Vec::new(alloc);
+    for k in 0..thin.forms.rows() {
+        forms.push(model.lifted(alloc, thin.forms.row(k))?)?;
+    }
+    Ok(Judges { columns, forms })
+}
+
+/// The place of the direction whose slices have the best outlook, among the first ones by what their splits leave.
+fn best_place(
+    alloc: Global,
+    model: &OpenModel,
+    thin: Thin<'_>,
+    dict: &RangeDict,
+    rests: &mut [Option<i128>],
+    directions: &[Direction],
+) -> Result<usize, Halt> {
+    let judges = judges_of(alloc, model, thin)?;
+    let mut best = 0;
+    let mut least = i128::MAX;
+    for _try in 0..MOST_TRIED {
+        let Some(place) = take_least(rests) else {
+            break;
+        };
+        let Some(direction) = directions.get(place) else {
+            break;
+        };
+        let rank = rank_of(alloc, dict, direction, &judges, least)?;
+        if rank < least {
+            best = place;
+            least = rank;
+        }
+        if least <= 0 {
+            break;
+        }
+    }
+    Ok(best)
+}
+
+/// The place of the direction that is chosen among candidates of one count.
+fn chosen(
+    alloc: Global,
+    model: &OpenModel,
+    thin: Thin<'_>,
+    dict: &RangeDict,
+    seen: &Seen,
+    directions: &[Direction],
+) -> Result<usize, Halt> {
+    let count = match directions.first() {
+        Some(first) => first.count,
+        None => return Ok(0),
+    };
+    if directions.len() <= 1 || count <= 0 {
+        return Ok(0);
+    }
+    let mut rests = rests_of(alloc, model, thin, seen, directions)?;
+    if count > MOST_SLICES {
+        return Ok(take_least(&mut rests).unwrap_or(0));
+    }
+    best_place(alloc, model, thin, dict, &mut rests, directions)
+}
+
+/// The direction with the fewest slices among the candidates that are at most as wide as each free column, of several the one
+/// whose slices are nearest to being closed.
+pub(crate) fn thin_direction(
+    alloc: Global,
+    model: &OpenModel,
+    task: Task<'_>,
+    thin: Thin<'_>,
+    dict: &mut RangeDict,
+    seen: &mut Seen,
+) -> Result<Option<Direction>, Halt> {
+    let mut candidates = candidates_of(alloc, model, task, thin, dict, seen)?;
+    let place = passed_over(chosen(alloc, model, thin, dict, seen, &candidates.best).map(Some))?;
+    let place = place.unwrap_or(0);
+    if place >= candidates.best.len() {
+        return Ok(None);
+    }
+    Ok(Some(candidates.best.swap_remove(place)))
+}

@@ -1,0 +1,118 @@
+//! What the slices of a candidate have before them: how soon they can be closed.
+use crate::candidates::{Candidates, tried};
+use crate::ends::Direction;
+use crate::halt::{Halt, passed_over};
+use crate::seen::Seen;
+use crate::spread::{PARTS, least_width, parts_of, values_of};
+use range_dict::{Met, RangeDict};
+use spaces::{Form, Original};
+use std::alloc::Global;
+
+/// Forms of a node, over all columns, by which its slices are judged.
+#[derive(Debug, Drop)]
+pub(crate) struct Judges {
+    pub(crate) columns: Vec<Form<Original>>,
+    pub(crate) forms: Vec<Form<Original>>,
+}
+
+/// A copy of a form.
+fn copied(alloc: Global, form: &Form<Original>) -> Result<Form<Original>, Halt> {
+    Ok(Form::of(form.items().to_vec(alloc)?))
+}
+
+/// Whether a form need not be measured: it is wider than some free column and than another form, or has as many slices as are
+/// known, and more than one.
+fn is_passed_over(
+    alloc: Global,
+    seen: &Seen,
+    candidates: &Candidates,
+    form: &[i128],
+    least: i128,
+) -> Result<bool, Halt> {
+    if let Some(values) = values_of(alloc, seen, form)? {
+        let is_wider = least_width(&values).is_some_and(|width| width > least);
+        if is_wider && candidates.is_too_wide(&values) {
+            return Ok(true);
+        }
+    }
+    Ok(match (seen.least_count(form), candidates.count()) {
+        (Some(least), Some(count)) => least > 1 && least >= count,
+        _ => false,
+    })
+}
+
+/// The rank of a node's part that has a point: 0 where it has a direction without a slice, and else the more the more slices it
+/// has, at least two, and the wider its forms are.
+fn rank_of_part(
+    alloc: Global,
+    dict: &mut RangeDict,
+    seen: &mut Seen,
+    judges: &Judges,
+) -> Result<i128, Halt> {
+    let mut candidates = Candidates::new(alloc);
+    for form in &judges.columns {
+        candidates.weigh_column(alloc, dict, seen, copied(alloc, form)?)?;
+    }
+    candidates.take_thinnest(alloc)?;
+    let mut least = candidates.limit_parts().unwrap_or(2 * PARTS);
+    least = least.max(2 * PARTS);
+    for form in &judges.forms {
+        if candidates.is_settled() {
+            break;
+        }
+        if is_passed_over(alloc, seen, &candidates, form.items(), least)? {
+            continue;
+        }
+        if let Some(measured) = tried(alloc, dict, seen, copied(alloc, form)?)? {
+            if let Some(width) = &measured.width {
+                least = least.min(parts_of(width));
+            }
+            candidates.take_measured(alloc, measured)?;
+        }
+    }
+    Ok(match candidates.count() {
+        Some(count) if count <= 0 => 0,
+        Some(1) => PARTS + least.min(candidates.limit_parts().unwrap_or(PARTS)) / 10,
+        _ => 2 * PARTS + (least - PARTS) / 2,
+    })
+}
+
+/// The rank of the slice at which a form has the value: 0 where it has no point.
+fn rank_of_slice(
+    alloc: Global,
+    dict: &RangeDict,
+    form: &[i128],
+    value: i128,
+    judges: &Judges,
+) -> Result<i128, Halt> {
+    let mut dict = dict.child(alloc, form, value)?;
+    let Met::Point(vertex) = dict.meet(alloc)? else {
+        return Ok(0);
+    };
+    let mut seen = Seen::new(alloc);
+    seen.add(vertex)?;
+    rank_of_part(alloc, &mut dict, &mut seen, judges)
+}
+
+/// The rank of a direction: the sum of those of its slices, as far as it stays below a limit.
+pub(crate) fn rank_of(
+    alloc: Global,
+    dict: &RangeDict,
+    direction: &Direction,
+    judges: &Judges,
+    limit: i128,
+) -> Result<i128, Halt> {
+    let mut sum = 0i128;
+    for j in 0..direction.count {
+        if sum >= limit {
+            break;
+        }
+        let Some(value) = direction.lo.checked_add(j) else {
+            return Ok(i128::MAX);
+        };
+        let form = direction.form.items();
+        let rank = passed_over(rank_of_slice(alloc, dict, form, value, judges).map(Some))?;
+        sum = sum.saturating_add(rank.unwrap_or(3 * PARTS));
+    }
+    Ok(sum)
+}
