@@ -58,7 +58,7 @@ impl Candidates {
     }
 
     /// Takes the width of a free column.
-    fn take_column(&mut self, alloc: Global, column: Measured) -> Result<(), Halt> {
+    pub(crate) fn take_column(&mut self, alloc: Global, column: Measured) -> Result<(), Halt> {
         let Measured { direction, width } = column;
         let Some(width) = width else {
             self.is_blurred = true;

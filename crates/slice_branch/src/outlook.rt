@@ -41,6 +41,27 @@ fn is_passed_over(
     })
 }
 
+/// Measures a column of a part, where it is free there.
+fn weigh_free(
+    alloc: Global,
+    dict: &mut RangeDict,
+    seen: &mut Seen,
+    candidates: &mut Candidates,
+    form: &Form<Original>,
+) -> Result<(), Halt> {
+    if let Some(values) = values_of(alloc, seen, form.items())?
+        && candidates.is_too_wide(&values)
+    {
+        return Ok(());
+    }
+    if let Some(measured) = tried(alloc, dict, seen, copied(alloc, form)?)?
+        && (measured.direction.count <= 0 || measured.width.is_some_and(|width| width.num() > 0))
+    {
+        candidates.take_column(alloc, measured)?;
+    }
+    Ok(())
+}
+
 /// The rank of a node's part that has a point: 0 where it has a direction without a slice, and else the more the more slices it
 /// has, at least two, and the wider its forms are.
 fn rank_of_part(
@@ -51,7 +72,7 @@ fn rank_of_part(
 ) -> Result<i128, Halt> {
     let mut candidates = Candidates::new(alloc);
     for form in &judges.columns {
-        candidates.weigh_column(alloc, dict, seen, copied(alloc, form)?)?;
+        weigh_free(alloc, dict, seen, &mut candidates, form)?;
     }
     candidates.take_thinnest(alloc)?;
     let mut least = candidates.limit_parts().unwrap_or(2 * PARTS);
@@ -63,10 +84,11 @@ fn rank_of_part(
         if is_passed_over(alloc, seen, &candidates, form.items(), least)? {
             continue;
         }
-        if let Some(measured) = tried(alloc, dict, seen, copied(alloc, form)?)? {
-            if let Some(width) = &measured.width {
-                least = least.min(parts_of(width));
-            }
+        if let Some(measured) = tried(alloc, dict, seen, copied(alloc, form)?)?
+            && let Some(width) = &measured.width
+            && width.num() > 0
+        {
+            least = least.min(parts_of(width));
             candidates.take_measured(alloc, measured)?;
         }
     }
