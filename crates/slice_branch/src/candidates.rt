@@ -1,7 +1,7 @@
 //! The candidates for the direction of a node: of those that are at most as wide as each free column the ones with the fewest
 //! slices.
 use crate::directions::is_small;
-use crate::ends::{Direction, Measured, measured};
+use crate::ends::{Measured, measured};
 use crate::halt::{Halt, passed_over};
 use crate::seen::Seen;
 use crate::spread::{least_width, parts_of, values_of};
@@ -19,9 +19,9 @@ pub(crate) struct Candidates {
     /// The least width of a free column, where one is known.
     limit: Option<Frac>,
     /// The free columns of this width.
-    thinnest: Vec<Direction>,
+    thinnest: Vec<Measured>,
     /// Candidates that have as many slices, the fewest.
-    pub(crate) best: Vec<Direction>,
+    pub(crate) best: Vec<Measured>,
     /// The programs of some free column leave 64 bits.
     pub(crate) is_blurred: bool,
 }
@@ -38,7 +38,7 @@ impl Candidates {
 
     /// How many slices the best ones have, where there are some.
     pub(crate) fn count(&self) -> Option<i128> {
-        Some(self.best.first()?.count)
+        Some(self.best.first()?.direction.count)
     }
 
     /// Whether no candidate can be better.
@@ -59,8 +59,7 @@ impl Candidates {
 
     /// Takes the width of a free column.
     pub(crate) fn take_column(&mut self, alloc: Global, column: Measured) -> Result<(), Halt> {
-        let Measured { direction, width } = column;
-        let Some(width) = width else {
+        let Some(width) = column.width else {
             self.is_blurred = true;
             return Ok(());
         };
@@ -73,30 +72,30 @@ impl Candidates {
             }
         }
         self.limit = Some(width);
-        self.thinnest.push(direction)?;
+        self.thinnest.push(column)?;
         Ok(())
     }
 
     /// Takes a candidate, where none has fewer slices.
-    pub(crate) fn take(&mut self, alloc: Global, direction: Direction) -> Result<(), Halt> {
+    pub(crate) fn take(&mut self, alloc: Global, other: Measured) -> Result<(), Halt> {
         if let Some(count) = self.count() {
-            if direction.count > count {
+            if other.direction.count > count {
                 return Ok(());
             }
-            if direction.count < count {
+            if other.direction.count < count {
                 self.best = Vec::new(alloc);
             }
         }
         if self.best.len() < MOST_KEPT {
-            self.best.push(direction)?;
+            self.best.push(other)?;
         }
         Ok(())
     }
 
     /// Takes the thinnest free columns among the candidates.
     pub(crate) fn take_thinnest(&mut self, alloc: Global) -> Result<(), Halt> {
-        while let Some(direction) = self.thinnest.pop() {
-            self.take(alloc, direction)?;
+        while let Some(column) = self.thinnest.pop() {
+            self.take(alloc, column)?;
         }
         Ok(())
     }
@@ -157,10 +156,9 @@ impl Candidates {
 
     /// Takes a form, where it is at most as wide as each free column that was measured and none has fewer slices.
     pub(crate) fn take_measured(&mut self, alloc: Global, measured: Measured) -> Result<(), Halt> {
-        let Measured { direction, width } = measured;
-        match (self.limit, width) {
-            (Some(limit), Some(width)) if width <= limit => self.take(alloc, direction),
-            (None, _) => self.take(alloc, direction),
+        match (self.limit, measured.width) {
+            (Some(limit), Some(width)) if width <= limit => self.take(alloc, measured),
+            (None, _) => self.take(alloc, measured),
             _ => Ok(()),
         }
     }

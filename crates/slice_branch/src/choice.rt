@@ -2,9 +2,10 @@
 use crate::binary::binary_direction;
 use crate::candidates::Candidates;
 use crate::directions::{Thin, column_form, further_form};
-use crate::ends::Direction;
+use crate::ends::{Direction, Measured};
 use crate::frames::divisor_of;
 use crate::halt::{Halt, passed_over};
+use crate::middle::add_middle;
 use crate::model::OpenModel;
 use crate::near::Task;
 use crate::outlook::{Judges, rank_of};
@@ -97,7 +98,8 @@ fn weigh_binaries(
                 alloc, model, task, dict, seen, j,
             ))?
         {
-            candidates.take(alloc, direction)?;
+            let width = None;
+            candidates.take(alloc, Measured { direction, width })?;
         }
     }
     Ok(())
@@ -162,7 +164,7 @@ fn rests_of(
     model: &OpenModel,
     thin: Thin<'_>,
     seen: &Seen,
-    directions: &[Direction],
+    directions: &[Measured],
 ) -> Result<Vec<Option<i128>>, Halt> {
     let mut forms = lying(alloc, model, thin, seen)?.values;
     for values in forms.iter_mut() {
@@ -174,7 +176,7 @@ fn rests_of(
     }
     let mut rests = Vec::with_capacity(alloc, directions.len())?;
     for direction in directions {
-        rests.push(Some(rest_of(alloc, seen, &forms, direction)?))?;
+        rests.push(Some(rest_of(alloc, seen, &forms, &direction.direction)?))?;
     }
     Ok(rests)
 }
@@ -216,7 +218,7 @@ fn best_place(
     thin: Thin<'_>,
     dict: &RangeDict,
     rests: &mut [Option<i128>],
-    directions: &[Direction],
+    directions: &[Measured],
 ) -> Result<usize, Halt> {
     let judges = judges_of(alloc, model, thin)?;
     let mut best = 0;
@@ -228,7 +230,7 @@ fn best_place(
         let Some(direction) = directions.get(place) else {
             break;
         };
-        let rank = rank_of(alloc, dict, direction, &judges, least)?;
+        let rank = rank_of(alloc, dict, &direction.direction, &judges, least)?;
         if rank < least {
             best = place;
             least = rank;
@@ -247,10 +249,10 @@ fn chosen(
     thin: Thin<'_>,
     dict: &RangeDict,
     seen: &Seen,
-    directions: &[Direction],
+    directions: &[Measured],
 ) -> Result<usize, Halt> {
     let count = match directions.first() {
-        Some(first) => first.count,
+        Some(first) => first.direction.count,
         None => return Ok(0),
     };
     if directions.len() <= 1 || count <= 0 {
@@ -279,5 +281,9 @@ pub(crate) fn thin_direction(
     if place >= candidates.best.len() {
         return Ok(None);
     }
-    Ok(Some(candidates.best.swap_remove(place)))
+    let Measured { direction, width } = candidates.best.swap_remove(place);
+    if let Some(width) = width {
+        add_middle(alloc, model, task, thin, dict, seen, &width)?;
+    }
+    Ok(Some(direction))
 }

@@ -13,6 +13,7 @@ mod forms;
 mod frames;
 mod gap;
 mod halt;
+mod middle;
 mod model;
 mod near;
 mod nearest;
