@@ -13,6 +13,7 @@ use crate::pairs::{lying, weigh_pairs};
 use crate::seen::Seen;
 use crate::spread::{centre, rest_beside, values_of};
 use range_dict::RangeDict;
+use spaces::{Form, Original};
 use std::alloc::Global;
 
 /// How many candidates are tried by the programs of their slices.
@@ -143,7 +144,7 @@ fn rest_of(
     if centre(&mut along).is_none() {
         return Ok(i128::MAX);
     }
-    let blur = (along.len() as i128).saturating_mul(4);
+    let blur = i128::try_from(along.len()).unwrap_or(0).saturating_mul(4);
     let mut least = i128::MAX;
     for values in forms {
         let Some(values) = values else {
@@ -158,6 +159,22 @@ fn rest_of(
     Ok(least)
 }
 
+/// The values of the short forms at the points that were seen, each around 0, where they stay in their range.
+fn centred_values(
+    alloc: Global,
+    model: &OpenModel,
+    thin: Thin<'_>,
+    seen: &Seen,
+) -> Result<Vec<Option<Vec<i128>>>, Halt> {
+    let mut forms = lying(alloc, model, thin, seen)?;
+    for form in forms.iter_mut() {
+        if let Some(values) = form {
+            centre(values).ok_or(Halt::GivesUp)?;
+        }
+    }
+    Ok(forms)
+}
+
 /// The rest of each direction's split.
 fn rests_of(
     alloc: Global,
@@ -166,17 +183,10 @@ fn rests_of(
     seen: &Seen,
     directions: &[Measured],
 ) -> Result<Vec<Option<i128>>, Halt> {
-    let mut forms = lying(alloc, model, thin, seen)?.values;
-    for values in forms.iter_mut() {
-        if let Some(values) = values
-            && centre(values).is_none()
-        {
-            return Err(Halt::GivesUp);
-        }
-    }
+    let forms = centred_values(alloc, model, thin, seen)?;
     let mut rests = Vec::with_capacity(alloc, directions.len())?;
-    for direction in directions {
-        rests.push(Some(rest_of(alloc, seen, &forms, &direction.direction)?))?;
+    for measured in directions {
+        rests.push(Some(rest_of(alloc, seen, &forms, &measured.direction)?))?;
     }
     Ok(rests)
 }
@@ -192,23 +202,36 @@ fn take_least(rests: &mut [Option<i128>]) -> Option<usize> {
         }
     }
     let (place, _least) = best?;
-    rests[place] = None;
+    *rests.get_mut(place)? = None;
     Some(place)
 }
 
-/// The forms by which slices are judged: the short forms of the coordinates, and the free columns.
-fn judges_of(alloc: Global, model: &OpenModel, thin: Thin<'_>) -> Result<Judges, Halt> {
+/// The free columns, made primitive.
+fn free_columns(
+    alloc: Global,
+    model: &OpenModel,
+    thin: Thin<'_>,
+) -> Result<Vec<Form<Original>>, Halt> {
     let mut columns = Vec::new(alloc);
     for j in 0..thin.forms.width() {
         if let Some(form) = column_form(alloc, model, thin, j)? {
             columns.push(form)?;
         }
     }
+    Ok(columns)
+}
+
+/// The short forms of the coordinates, over all columns.
+fn coordinates(
+    alloc: Global,
+    model: &OpenModel,
+    thin: Thin<'_>,
+) -> Result<Vec<Form<Original>>, Halt> {
     let mut forms = Vec::new(alloc);
     for k in 0..thin.forms.rows() {
         forms.push(model.lifted(alloc, thin.forms.row(k))?)?;
     }
-    Ok(Judges { columns, forms })
+    Ok(forms)
 }
 
 /// The place of the direction whose slices have the best outlook, among the first ones by what their splits leave.
@@ -220,7 +243,10 @@ fn best_place(
     rests: &mut [Option<i128>],
     directions: &[Measured],
 ) -> Result<usize, Halt> {
-    let judges = judges_of(alloc, model, thin)?;
+    let judges = Judges {
+        columns: free_columns(alloc, model, thin)?,
+        forms: coordinates(alloc, model, thin)?,
+    };
     let mut best = 0;
     let mut least = i128::MAX;
     for _try in 0..MOST_TRIED {

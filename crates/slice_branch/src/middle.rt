@@ -44,14 +44,16 @@ fn reach_of(alloc: Global, thin: Thin<'_>, factors: &[i128]) -> Result<Option<i1
             return Ok(None);
         }
     }
-    let mut reach = 0i128;
-    for factor in &along {
-        let Some(size) = factor.checked_abs() else {
-            return Ok(None);
-        };
-        reach = reach.max(size);
+    Ok(greatest_size(&along))
+}
+
+/// The greatest size of a factor, where each one has a size.
+fn greatest_size(factors: &[i128]) -> Option<i128> {
+    let mut most = 0;
+    for factor in factors {
+        most = most.max(factor.checked_abs()?);
     }
-    Ok(Some(reach))
+    Some(most)
 }
 
 /// Puts the sides of a form over the work columns at the end, where it varies in the frame.
@@ -83,6 +85,41 @@ fn push_walls(
     Ok(())
 }
 
+/// Puts the sides of the rows that are no equalities at the end.
+fn push_rows(
+    alloc: Global,
+    model: &OpenModel,
+    thin: Thin<'_>,
+    walls: &mut Vec<Wall>,
+) -> Result<(), Halt> {
+    let work = &model.work;
+    for i in 0..work.rows() {
+        let (low, high) = (work.low(i), work.high(i));
+        if low.is_none() || low != high {
+            push_walls(alloc, model, thin, walls, work.row(i), low, high)?;
+        }
+    }
+    Ok(())
+}
+
+/// Puts the bounds of the work columns at the end.
+fn push_box(
+    alloc: Global,
+    model: &OpenModel,
+    thin: Thin<'_>,
+    walls: &mut Vec<Wall>,
+) -> Result<(), Halt> {
+    let work = &model.work;
+    let mut unit = vec![in alloc; 0i128; work.columns()]?;
+    for j in 0..work.columns() {
+        unit[j] = 1;
+        let (low, high) = (Some(work.box_low(j)), Some(work.box_high(j)));
+        push_walls(alloc, model, thin, walls, &unit, low, high)?;
+        unit[j] = 0;
+    }
+    Ok(())
+}
+
 /// The sides of a node: those of the rows that are no equalities, the bounds of the work columns, and the cut.
 fn walls_of(
     alloc: Global,
@@ -92,19 +129,8 @@ fn walls_of(
 ) -> Result<Vec<Wall>, Halt> {
     let work = &model.work;
     let mut walls = Vec::new(alloc);
-    for i in 0..work.rows() {
-        let (low, high) = (work.low(i), work.high(i));
-        if low.is_none() || low != high {
-            push_walls(alloc, model, thin, &mut walls, work.row(i), low, high)?;
-        }
-    }
-    let mut unit = vec![in alloc; 0i128; work.columns()]?;
-    for j in 0..work.columns() {
-        unit[j] = 1;
-        let (low, high) = (Some(work.box_low(j)), Some(work.box_high(j)));
-        push_walls(alloc, model, thin, &mut walls, &unit, low, high)?;
-        unit[j] = 0;
-    }
+    push_rows(alloc, model, thin, &mut walls)?;
+    push_box(alloc, model, thin, &mut walls)?;
     if let Some(best) = task.best {
         let most = best
             .checked_sub(1)
@@ -123,30 +149,52 @@ fn add_slacks(walls: &mut [Wall], vertex: &Vertex) -> Option<()> {
     Some(())
 }
 
-/// The place of the side that the mean of the points is nearest to, by its reach.
-fn nearest_wall(walls: &[Wall]) -> Option<usize> {
-    let mut best = 0;
-    for i in 1..walls.len() {
-        let left = walls[i].room.checked_mul(walls[best].reach)?;
-        let right = walls[best].room.checked_mul(walls[i].reach)?;
-        if left < right {
-            best = i;
-        }
+/// Adds the slacks at each point to the rooms.
+fn add_all_slacks(walls: &mut [Wall], points: &[Vertex]) -> Option<()> {
+    for vertex in points {
+        add_slacks(walls, vertex)?;
     }
-    if walls.is_empty() { None } else { Some(best) }
+    Some(())
 }
 
-/// A power of four that is at most 4^(dimension-1).
+/// Whether the mean of the points is nearer to a side than to another one, by their reaches.
+fn is_nearer(wall: &Wall, other: &Wall) -> Option<bool> {
+    let own = wall.room.checked_mul(other.reach)?;
+    Some(own < other.room.checked_mul(wall.reach)?)
+}
+
+/// The side that the mean of the points is nearest to, by its reach.
+fn nearest_wall(walls: &[Wall]) -> Option<&Wall> {
+    let (mut best, rest) = walls.split_first()?;
+    for wall in rest {
+        if is_nearer(wall, best)? {
+            best = wall;
+        }
+    }
+    Some(best)
+}
+
+/// A power of four that is at most 4^(dimension-1), for a dimension above 0.
 fn factor_in(dimension: usize) -> i128 {
-    1 << (2 * (dimension.clamp(1, 17) - 1))
+    if dimension > 16 {
+        1 << 32
+    } else if dimension > 8 {
+        1 << 16
+    } else if dimension > 4 {
+        1 << 8
+    } else if dimension > 2 {
+        1 << 4
+    } else {
+        1 << 2
+    }
 }
 
 /// Whether the mean of so many points is far enough from a side to show that no whole form is much thinner than a width in parts.
 fn has_room(wall: &Wall, width: i128, points: usize, dimension: usize) -> Option<bool> {
     let points = i128::try_from(points).ok()?;
     let needed = width.checked_mul(points)?.checked_mul(wall.reach)?;
-    let there = wall.room.checked_mul(factor_in(dimension).checked_mul(2)?)?;
-    Some(needed <= there)
+    let there = wall.room.checked_mul(factor_in(dimension))?;
+    Some(needed <= there.checked_mul(2)?)
 }
 
 /// The point at which the slack of a side is greatest. The dictionary stays where its numbers leave 64 bits.
@@ -161,7 +209,29 @@ fn farthest(alloc: Global, dict: &mut RangeDict, wall: &Wall) -> Result<Vertex, 
     Ok(extreme.vertex)
 }
 
-/// The same, or that numbers leave their range.
+/// Adds points until their mean has room, or so many were added. The slacks of those that were seen are in the rooms.
+fn add_farthest(
+    alloc: Global,
+    dict: &mut RangeDict,
+    seen: &mut Seen,
+    walls: &mut [Wall],
+    width: i128,
+    dimension: usize,
+) -> Result<(), Halt> {
+    for _point in 0..MOST_ADDED {
+        let wall = nearest_wall(walls).ok_or(Halt::GivesUp)?;
+        let points = seen.points().len();
+        if has_room(wall, width, points, dimension).ok_or(Halt::GivesUp)? {
+            break;
+        }
+        let vertex = farthest(alloc, dict, wall)?;
+        add_slacks(walls, &vertex).ok_or(Halt::GivesUp)?;
+        seen.add(vertex)?;
+    }
+    Ok(())
+}
+
+/// The same, from the points that were seen.
 fn added(
     alloc: Global,
     model: &OpenModel,
@@ -171,22 +241,10 @@ fn added(
     seen: &mut Seen,
     width: i128,
 ) -> Result<(), Halt> {
-    let dimension = thin.frame.dimension();
     let mut walls = walls_of(alloc, model, task, thin)?;
-    for vertex in seen.points() {
-        add_slacks(&mut walls, vertex).ok_or(Halt::GivesUp)?;
-    }
-    for _point in 0..MOST_ADDED {
-        let place = nearest_wall(&walls).ok_or(Halt::GivesUp)?;
-        let points = seen.points().len();
-        if has_room(&walls[place], width, points, dimension).ok_or(Halt::GivesUp)? {
-            break;
-        }
-        let vertex = farthest(alloc, dict, &walls[place])?;
-        add_slacks(&mut walls, &vertex).ok_or(Halt::GivesUp)?;
-        seen.add(vertex)?;
-    }
-    Ok(())
+    add_all_slacks(&mut walls, seen.points()).ok_or(Halt::GivesUp)?;
+    let dimension = thin.frame.dimension();
+    add_farthest(alloc, dict, seen, &mut walls, width, dimension)
 }
 
 /// Adds points of the node to those that were seen, until their mean shows that no whole form is thinner than a direction of this

@@ -8,6 +8,9 @@ use range_dict::{Met, RangeDict};
 use spaces::{Form, Original};
 use std::alloc::Global;
 
+/// The greatest width in parts that counts.
+const WIDEST: i128 = 2 * PARTS;
+
 /// Forms of a node, over all columns, by which its slices are judged.
 #[derive(Debug, Drop)]
 pub(crate) struct Judges {
@@ -62,26 +65,35 @@ fn weigh_free(
     Ok(())
 }
 
-/// The rank of a node's part that has a point: 0 where it has a direction without a slice, and else the more the more slices it
-/// has, at least two, and the wider its forms are.
-fn rank_of_part(
+/// The free columns of a part among the candidates.
+fn part_columns(
     alloc: Global,
     dict: &mut RangeDict,
     seen: &mut Seen,
     judges: &Judges,
-) -> Result<i128, Halt> {
+) -> Result<Candidates, Halt> {
     let mut candidates = Candidates::new(alloc);
     for form in &judges.columns {
         weigh_free(alloc, dict, seen, &mut candidates, form)?;
     }
     candidates.take_thinnest(alloc)?;
-    let mut least = candidates.limit_parts().unwrap_or(2 * PARTS);
-    least = least.max(2 * PARTS);
-    for form in &judges.forms {
+    Ok(candidates)
+}
+
+/// Weighs further forms of a part, and answers the least width of one in parts.
+fn weigh_forms(
+    alloc: Global,
+    dict: &mut RangeDict,
+    seen: &mut Seen,
+    candidates: &mut Candidates,
+    forms: &[Form<Original>],
+) -> Result<i128, Halt> {
+    let mut least = WIDEST;
+    for form in forms {
         if candidates.is_settled() {
             break;
         }
-        if is_passed_over(alloc, seen, &candidates, form.items(), least)? {
+        if is_passed_over(alloc, seen, candidates, form.items(), least)? {
             continue;
         }
         if let Some(measured) = tried(alloc, dict, seen, copied(alloc, form)?)?
@@ -92,10 +104,24 @@ fn rank_of_part(
             candidates.take_measured(alloc, measured)?;
         }
     }
+    Ok(least)
+}
+
+/// The rank of a node's part that has a point: 0 where it has a direction without a slice, and else the more the more slices it
+/// has, at least two, and the wider its forms are.
+fn rank_of_part(
+    alloc: Global,
+    dict: &mut RangeDict,
+    seen: &mut Seen,
+    judges: &Judges,
+) -> Result<i128, Halt> {
+    let mut candidates = part_columns(alloc, dict, seen, judges)?;
+    let least = weigh_forms(alloc, dict, seen, &mut candidates, &judges.forms)?;
+    let limit = candidates.limit_parts().unwrap_or(WIDEST);
     Ok(match candidates.count() {
         Some(count) if count <= 0 => 0,
-        Some(1) => PARTS + least.min(candidates.limit_parts().unwrap_or(PARTS)) / 10,
-        _ => 2 * PARTS + (least - PARTS) / 2,
+        Some(1) => PARTS.saturating_add(least.min(limit) / 10),
+        _ => (2 * PARTS).saturating_add(least.saturating_sub(PARTS) / 2),
     })
 }
 

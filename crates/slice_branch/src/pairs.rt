@@ -9,44 +9,61 @@ use range_dict::RangeDict;
 use spaces::{Form, Original};
 use std::alloc::Global;
 
-/// A frame's short forms with their values at the points that were seen.
-#[derive(Debug, Drop)]
-pub(crate) struct Lying {
-    pub(crate) values: Vec<Option<Vec<i128>>>,
-}
-
-/// The values of the frame's short forms at the points.
+/// The values of the frame's short forms at the points that were seen, where they stay in their range.
 pub(crate) fn lying(
     alloc: Global,
     model: &OpenModel,
     thin: Thin<'_>,
     seen: &Seen,
-) -> Result<Lying, Halt> {
-    let mut values = Vec::with_capacity(alloc, thin.forms.rows())?;
+) -> Result<Vec<Option<Vec<i128>>>, Halt> {
+    let mut all = Vec::with_capacity(alloc, thin.forms.rows())?;
     for k in 0..thin.forms.rows() {
         let form = model.lifted(alloc, thin.forms.row(k))?;
-        values.push(values_of(alloc, seen, form.items())?)?;
+        all.push(values_of(alloc, seen, form.items())?)?;
     }
-    Ok(Lying { values })
+    Ok(all)
 }
 
-/// The sum or the difference of two of the short forms, over all columns.
+/// Two of a frame's short forms, added or taken from one another.
+#[derive(Clone, Copy, Debug, Drop)]
+struct Pair {
+    first: usize,
+    second: usize,
+    is_sum: bool,
+}
+
+/// The form of a pair, over all columns.
 fn pair_form(
     alloc: Global,
     model: &OpenModel,
     thin: Thin<'_>,
-    i: usize,
-    j: usize,
-    is_sum: bool,
+    pair: Pair,
 ) -> Result<Form<Original>, Halt> {
     let forms = thin.forms;
-    if i >= forms.rows() || j >= forms.rows() {
+    if pair.first >= forms.rows() || pair.second >= forms.rows() {
         return Err(Halt::GivesUp);
     }
-    let mut factors = forms.row(i).to_vec(alloc)?;
-    let times = if is_sum { 1 } else { -1 };
-    add_row(&mut factors, forms.row(j), times).ok_or(Halt::GivesUp)?;
+    let mut factors = forms.row(pair.first).to_vec(alloc)?;
+    let times = if pair.is_sum { 1 } else { -1 };
+    add_row(&mut factors, forms.row(pair.second), times).ok_or(Halt::GivesUp)?;
     short_form(alloc, model, thin.short, &factors)
+}
+
+/// Whether the values of two forms show that a pair of them may be thin.
+fn may_be_thin(
+    alloc: Global,
+    candidates: &Candidates,
+    values: &[Option<Vec<i128>>],
+    pair: Pair,
+) -> Result<bool, Halt> {
+    let (Some(Some(first)), Some(Some(second))) = (values.get(pair.first), values.get(pair.second))
+    else {
+        return Ok(false);
+    };
+    Ok(match joined(alloc, first, second, pair.is_sum)? {
+        Some(values) => !candidates.is_too_wide(&values),
+        None => false,
+    })
 }
 
 /// Weighs the sums, or the differences, of one short form and each one before it.
@@ -57,27 +74,22 @@ fn weigh_with(
     dict: &mut RangeDict,
     seen: &mut Seen,
     candidates: &mut Candidates,
-    lying: &Lying,
-    i: usize,
+    values: &[Option<Vec<i128>>],
+    first: usize,
     is_sum: bool,
 ) -> Result<(), Halt> {
-    let Some(Some(first)) = lying.values.get(i) else {
-        return Ok(());
-    };
-    for j in 0..i.min(lying.values.len()) {
+    for second in 0..first {
         if candidates.is_settled() {
             break;
         }
-        let Some(second) = &lying.values[j] else {
-            continue;
+        let pair = Pair {
+            first,
+            second,
+            is_sum,
         };
-        let Some(values) = joined(alloc, first, second, is_sum)? else {
-            continue;
-        };
-        if candidates.is_too_wide(&values) {
-            continue;
-        }
-        if let Some(form) = passed_over(pair_form(alloc, model, thin, i, j, is_sum).map(Some))? {
+        if may_be_thin(alloc, candidates, values, pair)?
+            && let Some(form) = passed_over(pair_form(alloc, model, thin, pair).map(Some))?
+        {
             candidates.weigh(alloc, dict, seen, form)?;
         }
     }
@@ -93,13 +105,10 @@ pub(crate) fn weigh_pairs(
     seen: &mut Seen,
     candidates: &mut Candidates,
 ) -> Result<(), Halt> {
-    let lying = lying(alloc, model, thin, seen)?;
-    for i in 0..lying.values.len() {
-        for is_sum in [true, false] {
-            weigh_with(
-                alloc, model, thin, dict, seen, candidates, &lying, i, is_sum,
-            )?;
-        }
+    let values = lying(alloc, model, thin, seen)?;
+    for first in 0..values.len() {
+        weigh_with(alloc, model, thin, dict, seen, candidates, &values, first, true)?;
+        weigh_with(alloc, model, thin, dict, seen, candidates, &values, first, false)?;
     }
     Ok(())
 }
