@@ -107,8 +107,12 @@ pub(crate) fn weigh_pairs(
 ) -> Result<(), Halt> {
     let values = lying(alloc, model, thin, seen)?;
     for first in 0..values.len() {
-        weigh_with(alloc, model, thin, dict, seen, candidates, &values, first, true)?;
-        weigh_with(alloc, model, thin, dict, seen, candidates, &values, first, false)?;
+        weigh_with(
+            alloc, model, thin, dict, seen, candidates, &values, first, true,
+        )?;
+        weigh_with(
+            alloc, model, thin, dict, seen, candidates, &values, first, false,
+        )?;
     }
     Ok(())
 }
