@@ -1,7 +1,7 @@
 //! The candidates for the direction of a node: of those that are at most as wide as each free column the ones with the fewest
 //! slices.
 use crate::directions::is_small;
-use crate::ends::{Measured, measured};
+use crate::ends::{Candidate, measured};
 use crate::halt::{Halt, passed_over};
 use crate::seen::Seen;
 use crate::spread::{least_width, parts_of, values_of};
@@ -19,9 +19,9 @@ pub(crate) struct Candidates {
     /// The least width of a free column, where one is known.
     limit: Option<Frac>,
     /// The free columns of this width.
-    thinnest: Vec<Measured>,
+    thinnest: Vec<Candidate>,
     /// Candidates that have as many slices, the fewest.
-    pub(crate) best: Vec<Measured>,
+    pub(crate) best: Vec<Candidate>,
     /// The programs of some free column leave 64 bits.
     pub(crate) is_blurred: bool,
 }
@@ -58,7 +58,7 @@ impl Candidates {
     }
 
     /// Takes the width of a free column.
-    pub(crate) fn take_column(&mut self, alloc: Global, column: Measured) -> Result<(), Halt> {
+    pub(crate) fn take_column(&mut self, alloc: Global, column: Candidate) -> Result<(), Halt> {
         let Some(width) = column.width else {
             self.is_blurred = true;
             return Ok(());
@@ -77,7 +77,7 @@ impl Candidates {
     }
 
     /// Takes a candidate, where none has fewer slices.
-    pub(crate) fn take(&mut self, alloc: Global, other: Measured) -> Result<(), Halt> {
+    pub(crate) fn take(&mut self, alloc: Global, other: Candidate) -> Result<(), Halt> {
         if let Some(count) = self.count() {
             if other.direction.count > count {
                 return Ok(());
@@ -149,16 +149,20 @@ impl Candidates {
             }
         }
         match tried(alloc, dict, seen, form)? {
-            Some(measured) => self.take_measured(alloc, measured),
+            Some(candidate) => self.take_candidate(alloc, candidate),
             None => Ok(()),
         }
     }
 
     /// Takes a form, where it is at most as wide as each free column that was measured and none has fewer slices.
-    pub(crate) fn take_measured(&mut self, alloc: Global, measured: Measured) -> Result<(), Halt> {
-        match (self.limit, measured.width) {
-            (Some(limit), Some(width)) if width <= limit => self.take(alloc, measured),
-            (None, _) => self.take(alloc, measured),
+    pub(crate) fn take_candidate(
+        &mut self,
+        alloc: Global,
+        candidate: Candidate,
+    ) -> Result<(), Halt> {
+        match (self.limit, candidate.width) {
+            (Some(limit), Some(width)) if width <= limit => self.take(alloc, candidate),
+            (None, _) => self.take(alloc, candidate),
             _ => Ok(()),
         }
     }
@@ -175,7 +179,7 @@ pub(crate) fn tried(
     dict: &mut RangeDict,
     seen: &mut Seen,
     form: Form<Original>,
-) -> Result<Option<Measured>, Halt> {
+) -> Result<Option<Candidate>, Halt> {
     let mut trial = dict.copied(alloc)?;
     let found = passed_over(measured(alloc, &mut trial, seen, form).map(Some))?;
     if found.is_some() {

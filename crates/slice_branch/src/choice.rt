@@ -2,7 +2,7 @@
 use crate::binary::binary_direction;
 use crate::candidates::Candidates;
 use crate::directions::{Thin, column_form, further_form};
-use crate::ends::{Direction, Measured};
+use crate::ends::{Candidate, Direction};
 use crate::frames::divisor_of;
 use crate::halt::{Halt, passed_over};
 use crate::middle::add_middle;
@@ -100,7 +100,7 @@ fn weigh_binaries(
             ))?
         {
             let width = None;
-            candidates.take(alloc, Measured { direction, width })?;
+            candidates.take(alloc, Candidate { direction, width })?;
         }
     }
     Ok(())
@@ -181,12 +181,12 @@ fn rests_of(
     model: &OpenModel,
     thin: Thin<'_>,
     seen: &Seen,
-    directions: &[Measured],
+    directions: &[Candidate],
 ) -> Result<Vec<Option<i128>>, Halt> {
     let forms = centred_values(alloc, model, thin, seen)?;
     let mut rests = Vec::with_capacity(alloc, directions.len())?;
-    for measured in directions {
-        rests.push(Some(rest_of(alloc, seen, &forms, &measured.direction)?))?;
+    for candidate in directions {
+        rests.push(Some(rest_of(alloc, seen, &forms, &candidate.direction)?))?;
     }
     Ok(rests)
 }
@@ -241,7 +241,7 @@ fn best_place(
     thin: Thin<'_>,
     dict: &RangeDict,
     rests: &mut [Option<i128>],
-    directions: &[Measured],
+    directions: &[Candidate],
 ) -> Result<usize, Halt> {
     let judges = Judges {
         columns: free_columns(alloc, model, thin)?,
@@ -275,7 +275,7 @@ fn chosen(
     thin: Thin<'_>,
     dict: &RangeDict,
     seen: &Seen,
-    directions: &[Measured],
+    directions: &[Candidate],
 ) -> Result<usize, Halt> {
     let count = match directions.first() {
         Some(first) => first.direction.count,
@@ -307,7 +307,7 @@ pub(crate) fn thin_direction(
     if place >= candidates.best.len() {
         return Ok(None);
     }
-    let Measured { direction, width } = candidates.best.swap_remove(place);
+    let Candidate { direction, width } = candidates.best.swap_remove(place);
     if let Some(width) = width {
         add_middle(alloc, model, task, thin, dict, seen, &width)?;
     }

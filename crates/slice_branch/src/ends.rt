@@ -67,9 +67,19 @@ fn negate(factors: &mut [i128]) -> Option<()> {
 /// A direction with its width: the greatest less the least value at the rational points of the node; none where that leaves
 /// 128 bits.
 #[derive(Debug, Drop)]
-pub(crate) struct Measured {
+pub(crate) struct Candidate {
     pub(crate) direction: Direction,
     pub(crate) width: Option<Frac>,
+}
+
+impl Candidate {
+    /// Whether the form has more than one value.
+    pub(crate) fn varies(&self) -> bool {
+        match &self.width {
+            Some(width) => width.num() > 0,
+            None => false,
+        }
+    }
 }
 
 /// The difference of two extremes.
@@ -88,7 +98,7 @@ pub(crate) fn measured(
     dict: &mut RangeDict,
     seen: &mut Seen,
     form: Form<Original>,
-) -> Result<Measured, Halt> {
+) -> Result<Candidate, Halt> {
     let least = dict.least(alloc, form.items())?;
     let lo = ceil(least.value, least.vertex.denominator).ok_or(Halt::GivesUp)?;
     let greatest = dict.greatest(alloc, form.items())?;
@@ -104,7 +114,7 @@ pub(crate) fn measured(
         below: least.line,
         above: greatest.line,
     };
-    Ok(Measured { direction, width })
+    Ok(Candidate { direction, width })
 }
 
 /// How many whole numbers there are from `lo` to `last`.

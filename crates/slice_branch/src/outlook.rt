@@ -44,7 +44,7 @@ fn is_passed_over(
     })
 }
 
-/// Measures a column of a part, where it is free there.
+/// Measures a column of a part, where it is free there or has no value.
 fn weigh_free(
     alloc: Global,
     dict: &mut RangeDict,
@@ -57,10 +57,10 @@ fn weigh_free(
     {
         return Ok(());
     }
-    if let Some(measured) = tried(alloc, dict, seen, copied(alloc, form)?)?
-        && (measured.direction.count <= 0 || measured.width.is_some_and(|width| width.num() > 0))
+    if let Some(column) = tried(alloc, dict, seen, copied(alloc, form)?)?
+        && (column.direction.count <= 0 || column.varies())
     {
-        candidates.take_column(alloc, measured)?;
+        candidates.take_column(alloc, column)?;
     }
     Ok(())
 }
@@ -96,12 +96,12 @@ fn weigh_forms(
         if is_passed_over(alloc, seen, candidates, form.items(), least)? {
             continue;
         }
-        if let Some(measured) = tried(alloc, dict, seen, copied(alloc, form)?)?
-            && let Some(width) = &measured.width
-            && width.num() > 0
+        if let Some(candidate) = tried(alloc, dict, seen, copied(alloc, form)?)?
+            && let Some(width) = &candidate.width
+            && candidate.varies()
         {
             least = least.min(parts_of(width));
-            candidates.take_measured(alloc, measured)?;
+            candidates.take_candidate(alloc, candidate)?;
         }
     }
     Ok(least)
