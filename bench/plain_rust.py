@@ -1,7 +1,7 @@
 #!/usr/bin/env python3
 """Writes the search as plain Rust into a folder, to measure it without a proof: `plain_rust.py OUT` makes OUT/src, and with
 `rustc` on the machine the program OUT/plain. OUT/plain [--nodes N] MODEL.. prints for each model of solve_models.py its answer,
-NODES, PLAIN, VALUE and the seconds.
+NODES, PLAIN, VALUE and the seconds of processor time.
 
 The contracts and proofs are left out of the sources, the crates become modules of one program, and the kit's vectors, boxes
 and allocator are those of plain_kit.rs. Nothing in the program is proved; it stops where a number overflows."""
