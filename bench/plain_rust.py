@@ -130,6 +130,8 @@ def translated(text, name, crates):
         if blank(token):
             out.append(token if token.isspace() else "")
             continue
+        if token == "pub" and reader.peek() == "ghost":
+            continue
         if token == "ghost":
             reader.skip_to(";" if reader.peek() == "use" else ",;")
         elif token in ("requires", "ensures") and is_clause(reader):
@@ -162,11 +164,14 @@ def translated(text, name, crates):
 
 
 def sources(name):
-    folder = os.path.join(TOP, "crates", name, "src")
-    for file in sorted(os.listdir(folder)):
-        if file.endswith(".rt"):
-            with open(os.path.join(folder, file)) as source:
-                yield file[:-3], source.read()
+    """The files of a crate without its tests: their paths without the ending, and their texts."""
+    top = os.path.join(TOP, "crates", name, "src")
+    for folder, _folders, files in sorted(os.walk(top)):
+        for file in sorted(files):
+            path = os.path.relpath(os.path.join(folder, file), top)[:-3]
+            if file.endswith(".rt") and not re.search(r"(^|_)tests($|[/_])", path):
+                with open(os.path.join(folder, file)) as source:
+                    yield path, source.read()
 
 
 def needed(all_crates):
@@ -196,12 +201,9 @@ def main():
     crates = needed(set(os.listdir(os.path.join(TOP, "crates"))))
     for name in crates:
         for file, text in sources(name):
-            if "tests" in file:
-                continue
-            text = "use crate::kit::*;\n" + translated(text, name, crates) if file != "lib" else translated(text, name, crates)
-            if file == "lib":
-                text = "use crate::kit::*;\n" + re.sub(r"#\[cfg\(test\)\]\s*(pub )?mod \w+;", "", text)
-            write(os.path.join(out, "src", name, "mod.rs" if file == "lib" else file + ".rs"), text)
+            text = re.sub(r"#\[cfg\(test\)\]\s*(pub )?mod \w+;", "", text)
+            place = "mod" if file == "lib" else file
+            write(os.path.join(out, "src", name, place + ".rs"), "use crate::kit::*;\n" + translated(text, name, crates))
     for part in ("kit", "main"):
         with open(os.path.join(TOP, "bench", "plain_%s.rs" % part)) as file:
             text = file.read()

@@ -15,6 +15,3 @@ pub use desk::{Call, Desk, DeskStop, Failed};
 pub use memory::MemDesk;
 pub use real::RealDesk;
 pub use sure::SureDesk;
-
-#[cfg(test)]
-mod tests;

@@ -47,6 +47,3 @@ pub fn inequality_laws()
     ensures rational_farkas { (n : ℕ) (m : List ℚ) (rows : List (List ℚ)) (x b : List ℚ) → HasWidth n rows → NotNegativeBy rationals ◌≤ℚ◌ m → combination rationals n m rows ≡ zeros rationals n → dot rationals m b <ℚ whole (pos 0) → ¬ (AllZip ◌≤ℚ◌ (times_vector rationals rows x) b) }
     ensures bounded { (v w : List ℤ) (p q : ℕ) → All (λ a. nat_abs a ≤ p) v → All (λ x. nat_abs x ≤ q) w → nat_abs (dot integers v w) ≤ length v * (p * q) }
 {}
-
-#[cfg(test)]
-mod tests;

@@ -16,8 +16,3 @@ pub use line::{CutUse, End, Line, Use, Uses, Weight};
 pub use node::has_side;
 pub use path::{Path, Slice};
 pub use sequence::NoMemory;
-
-#[cfg(test)]
-mod frac_tests;
-#[cfg(test)]
-mod tests;

@@ -18,5 +18,6 @@ pub mod MeanLaws
 pub mod FixedPointLaws
 pub mod MeanOverLaws
 pub mod Directions
+pub mod DirectionLaws
 pub mod EndTimesLaws
 pub mod PrimitiveLaws

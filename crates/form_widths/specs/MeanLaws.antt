@@ -1,8 +1,8 @@
 -- The mean of points that meet inequalities has room there.
-use Rattle.std.proofs.Common.{◌≡◌, ⊎_elim, ℕ, zero, suc, ◌*◌, ◌<◌, ◌≤◌, ℤ, pos, neg_ℤ, nat_abs, ◌+ℤ◌, ◌*ℤ◌, ◌≤ℤ◌, List, [], ◌∷◌, length, get_or, map, refl, sym, ap, ◌∙◌, subst, subst₂, arith, mul-pos}
+use Rattle.std.proofs.Common.{◌≡◌, ⊎_elim, inl, inr, ℕ, zero, suc, ◌*◌, ◌<◌, ◌≤◌, ℤ, pos, neg_ℤ, nat_abs, ◌+ℤ◌, ◌*ℤ◌, ◌≤ℤ◌, List, [], ◌∷◌, length, get_or, map, refl, sym, ap, ◌∙◌, subst, subst₂, arith, mul-pos}
 use Rattle.std.specs.Prelude.{All}
 use Rattle.std.proofs.lemmas.List.{length-set}
-use Rattle.std.proofs.lemmas.List.Elements.{All-head, All-tail}
+use Rattle.std.proofs.lemmas.List.Elements.{All-head, All-tail, All-weaker}
 use Rattle.exact_math.specs.IntegerOrder.{abs_bounds}
 use Rattle.exact_math.specs.IntegerRing.{linear}
 use Rattle.exact_math.specs.OrderedRing as Ordered
@@ -20,7 +20,7 @@ use Rattle.whole_vectors.specs.ClearedLaws.{inverse-mul}
 use Rattle.whole_vectors.specs.WholeVectorLaws.{whole_neg}
 use Rattle.form_widths.specs.FormLaws.{form_value-moved}
 use Rattle.form_widths.specs.Inequalities.{IsMetAt, IsSolution, slack}
-use Rattle.form_widths.specs.Means.{HasSlack, LeavesRoom, mean, room_of, total}
+use Rattle.form_widths.specs.Means.{AllowsStep, LeavesRoom, LeavesStep, mean, room_of, total}
 use Rattle.form_widths.specs.RationalOrderLaws.{inverse-nonneg, le_by}
 use Rattle.form_widths.specs.Rooms.{HasRoom, moved}
 
@@ -33,7 +33,7 @@ length-total n inequalities (y ∷ points) h =
     Matrices.length-add rationals n y (total n points) (All-head (IsSolution n inequalities) y points h).0 (length-total n inequalities points (All-tail (IsSolution n inequalities) y points h))
 
 -- so has the mean
-length-mean : (n : ℕ) (inequalities : List Inequality) (points : List (List ℚ)) → All (IsSolution n inequalities) points → length (mean n points) ≡ n
+pub length-mean : (n : ℕ) (inequalities : List Inequality) (points : List (List ℚ)) → All (IsSolution n inequalities) points → length (mean n points) ≡ n
 length-mean n inequalities points h = Matrices.length-scale rationals (whole (pos 1) /ℚ whole (pos (length points))) (total n points) ∙ length-total n inequalities points h
 
 -- the sum of the slacks
@@ -145,7 +145,7 @@ room_at_least scale reach room factor points width some some_scale some_reach h 
     right : (i f r : ℚ) → (whole (pos 1) *ℚ i) *ℚ (f *ℚ (whole (pos 2) *ℚ r)) ≡ f *ℚ (whole (pos 2) *ℚ (r *ℚ i))
     right i f r = ring rationals (i ∷ f ∷ r ∷ []) (search reads depth 30) (search reads depth 30) refl
 
-module _ (n scale reach room : ℕ) (inequalities : List Inequality) (points : List (List ℚ)) (some : 0 < length points) (some_scale : 0 < scale) (some_reach : 0 < reach) (solutions : All (IsSolution n inequalities) points) where
+module _ (n scale : ℕ) (rho : ℚ) (inequalities : List Inequality) (points : List (List ℚ)) (some : 0 < length points) (some_scale : 0 < scale) (nonneg : whole (pos 0) ≤ℚ rho) (solutions : All (IsSolution n inequalities) points) where
   -- the mean with a coordinate moved meets an inequality, where the move is within the mean slack
   meets_moved : (inequality : Inequality) (k : ℕ) (step : ℚ) → k < n → (whole (get_or inequality.factors k (pos 0)) *ℚ step) ≤ℚ ((whole (pos 1) /ℚ whole (pos (length points))) *ℚ slacks inequality points) → IsMetAt (moved (mean n points) k step) inequality
   meets_moved inequality k step within small =
@@ -156,24 +156,12 @@ module _ (n scale reach room : ℕ) (inequalities : List Inequality) (points : L
       left_over : (l s m : ℚ) → l -ℚ ((l -ℚ s) +ℚ m) ≡ s -ℚ m
       left_over l s m = ring rationals (l ∷ s ∷ m ∷ []) (search reads depth 30) (search reads depth 30) refl
 
-  -- the room is not negative
-  room-nonneg : whole (pos 0) ≤ℚ room_of scale reach room points
-  room-nonneg =
-      let all : 0 < length points * (scale * reach) = mul-pos some (mul-pos some_scale some_reach) in
-      subst (λ t. whole (pos 0) ≤ℚ t) (plain (whole (pos room)) (inv_ℚ (whole (pos (length points * (scale * reach)))))) (mul_nonneg (whole (pos room)) _ (whole_le (pos 0) (pos room) (omega linear)) (inverse-nonneg (length points * (scale * reach)) all))
-    where
-      plain : (r i : ℚ) → r *ℚ (whole (pos 1) *ℚ i) ≡ r *ℚ i
-      plain r i = ring rationals (r ∷ i ∷ []) (search reads depth 30) (search reads depth 30) refl
-
-  -- an inequality that leaves room, met where a coordinate is moved either way
-  meets_both : (inequality : Inequality) → All (λ y. IsMetAt y inequality) points → LeavesRoom scale reach room points inequality → (k : ℕ) → k < n → IsMetAt (moved (mean n points) k (room_of scale reach room points)) inequality × IsMetAt (moved (mean n points) k (neg_ℚ (room_of scale reach room points))) inequality
+  -- an inequality that leaves the step, met where a coordinate is moved either way
+  meets_both : (inequality : Inequality) → All (λ y. IsMetAt y inequality) points → LeavesStep scale rho points inequality → (k : ℕ) → k < n → IsMetAt (moved (mean n points) k rho) inequality × IsMetAt (moved (mean n points) k (neg_ℚ rho)) inequality
   meets_both inequality met leaves k within = ⊎_elim flat steep leaves
     where
       share : ℚ
       share = (whole (pos 1) /ℚ whole (pos (length points))) *ℚ slacks inequality points
-
-      rho : ℚ
-      rho = room_of scale reach room points
 
       share-nonneg : whole (pos 0) ≤ℚ share
       share-nonneg = mul_nonneg (whole (pos 1) /ℚ whole (pos (length points))) (slacks inequality points) (inverse-nonneg (length points) some) (slacks-nonneg inequality points met)
@@ -184,20 +172,37 @@ module _ (n scale reach room : ℕ) (inequalities : List Inequality) (points : L
       flat : All (λ factor. factor ≡ pos 0) inequality.factors → IsMetAt (moved (mean n points) k rho) inequality × IsMetAt (moved (mean n points) k (neg_ℚ rho)) inequality
       flat none = (meets_moved inequality k rho within (still none rho), meets_moved inequality k (neg_ℚ rho) within (still none (neg_ℚ rho)))
 
-      steep : HasSlack scale reach room points inequality → IsMetAt (moved (mean n points) k rho) inequality × IsMetAt (moved (mean n points) k (neg_ℚ rho)) inequality
+      steep : AllowsStep scale rho points inequality → IsMetAt (moved (mean n points) k rho) inequality × IsMetAt (moved (mean n points) k (neg_ℚ rho)) inequality
       steep h =
-          let steps = factor-step (get_or inequality.factors k (pos 0)) reach rho (item-small inequality.factors reach k h.light) room-nonneg in
-          let most = reach-room (length points) scale reach room (slacks inequality points) some some_scale some_reach h.enough in
-          (meets_moved inequality k rho within (le_trans _ _ _ steps.0 most), meets_moved inequality k (neg_ℚ rho) within (le_trans _ _ _ steps.1 most))
+          let steps = factor-step (get_or inequality.factors k (pos 0)) h.reach rho (item-small inequality.factors h.reach k h.slack.light) nonneg in
+          let all = le_trans _ _ _ (mul_le (whole (pos h.reach)) rho (room_of scale h.reach h.room points) (whole_le (pos 0) (pos h.reach) (omega linear)) h.within)
+          (reach-room (length points) scale h.reach h.room (slacks inequality points) some some_scale h.some h.slack.enough) in
+          (meets_moved inequality k rho within (le_trans _ _ _ steps.0 all), meets_moved inequality k (neg_ℚ rho) within (le_trans _ _ _ steps.1 all))
 
-  -- The mean has room in each coordinate.
-  pub mean_room : All (LeavesRoom scale reach room points) inequalities → HasRoom (IsSolution n inequalities) (mean n points) (room_of scale reach room points)
-  mean_room leaves k short =
-      ((long (room_of scale reach room points), λ i d lt. (both i d lt).0), (long (neg_ℚ (room_of scale reach room points)), λ i d lt. (both i d lt).1))
+  -- The mean has the room that each inequality leaves by itself.
+  pub mean_step : All (LeavesStep scale rho points) inequalities → HasRoom (IsSolution n inequalities) (mean n points) rho
+  mean_step leaves k short =
+      ((long rho, λ i d lt. (both i d lt).0), (long (neg_ℚ rho), λ i d lt. (both i d lt).1))
     where
       long : (step : ℚ) → length (moved (mean n points) k step) ≡ n
       long step = length-set (mean n points) k (get_or (mean n points) k (whole (pos 0)) +ℚ step) ∙ length-mean n inequalities points solutions
 
-      both : (i : ℕ) (d : Inequality) → i < length inequalities → IsMetAt (moved (mean n points) k (room_of scale reach room points)) (get_or inequalities i d) × IsMetAt (moved (mean n points) k (neg_ℚ (room_of scale reach room points))) (get_or inequalities i d)
+      both : (i : ℕ) (d : Inequality) → i < length inequalities → IsMetAt (moved (mean n points) k rho) (get_or inequalities i d) × IsMetAt (moved (mean n points) k (neg_ℚ rho)) (get_or inequalities i d)
       both i d lt =
           meets_both (get_or inequalities i d) (λ j y at. (solutions j y at).1 i d lt) (leaves i d lt) k (subst (λ (m : ℕ). k < m) (length-mean n inequalities points solutions) short)
+
+-- the room is not negative
+room-nonneg : (scale reach room : ℕ) (points : List (List ℚ)) → 0 < length points → 0 < scale → 0 < reach → whole (pos 0) ≤ℚ room_of scale reach room points
+room-nonneg scale reach room points some some_scale some_reach =
+    let all : 0 < length points * (scale * reach) = mul-pos some (mul-pos some_scale some_reach) in
+    subst (λ t. whole (pos 0) ≤ℚ t) (plain (whole (pos room)) (inv_ℚ (whole (pos (length points * (scale * reach)))))) (mul_nonneg (whole (pos room)) _ (whole_le (pos 0) (pos room) (omega linear)) (inverse-nonneg (length points * (scale * reach)) all))
+  where
+    plain : (r i : ℚ) → r *ℚ (whole (pos 1) *ℚ i) ≡ r *ℚ i
+    plain r i = ring rationals (r ∷ i ∷ []) (search reads depth 30) (search reads depth 30) refl
+
+-- The mean has the room that all inequalities leave.
+pub mean_room : (n scale reach room : ℕ) (inequalities : List Inequality) (points : List (List ℚ)) → 0 < length points → 0 < scale → 0 < reach → All (IsSolution n inequalities) points → All (LeavesRoom scale reach room points) inequalities → HasRoom (IsSolution n inequalities) (mean n points) (room_of scale reach room points)
+mean_room n scale reach room inequalities points some some_scale some_reach solutions leaves =
+    mean_step n scale (room_of scale reach room points) inequalities points some some_scale (room-nonneg scale reach room points some some_scale some_reach) solutions
+    (All-weaker (LeavesRoom scale reach room points) (LeavesStep scale (room_of scale reach room points) points) (λ inequality. ⊎_elim (λ none. inl none) (λ slack. inr (record { reach = reach; room = room; some = some_reach; slack = slack; within = le_refl _ }))) inequalities leaves)
+

@@ -13,6 +13,3 @@ mod order;
 pub use euclid::{gcd, lcm};
 pub use frac::Frac;
 pub use narrow::Wide;
-
-#[cfg(test)]
-mod tests;

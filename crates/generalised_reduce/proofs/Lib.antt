@@ -5,4 +5,3 @@ pub mod TestSteps
 pub mod BestSteps
 pub mod TurnSteps
 pub mod ImproveSteps
-pub mod WorkedStrip

@@ -11,6 +11,3 @@ mod reduction;
 
 pub use answer::{Gauges, ThinBasis, ThinExcuse, ThinStop};
 pub use basis::thin;
-
-#[cfg(test)]
-mod tests;

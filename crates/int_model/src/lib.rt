@@ -18,6 +18,3 @@ pub use part::{Part, RowsStop, first_large_part_is_one};
 pub use rounding::rounding_keeps_points;
 pub use sequence::NoMemory;
 pub use whole_rows::{Bounds, DenseRows};
-
-#[cfg(test)]
-mod tests;

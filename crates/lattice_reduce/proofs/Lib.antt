@@ -6,7 +6,6 @@ pub mod ExchangeSteps
 pub mod StateSteps
 pub mod CopySteps
 pub mod ProductSteps
-pub mod IndependentRows
 pub mod RaisedSteps
 pub mod LastSteps
 pub mod BesideSteps

@@ -9,8 +9,6 @@ mod exchange;
 mod lattice;
 mod numbers;
 mod reduction;
-#[cfg(test)]
-mod tests;
 
 pub use beside::{ReducedBeside, reduce_beside};
 pub use lattice::{ReduceExcuse, ReduceStop, Reduced, reduce};

@@ -12,4 +12,3 @@ pub mod LeastLaws
 pub mod RunSteps
 pub mod EndedLaws
 pub mod SolveSteps
-pub mod WorkedSystems

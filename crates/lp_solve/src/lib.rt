@@ -6,8 +6,6 @@ mod finish;
 mod search;
 mod signs;
 mod solve;
-#[cfg(test)]
-mod tests;
 
 pub use answer::{Ended, LpExcuse, LpStop, Pivots, Point, Solved, Weights};
 pub use solve::{minimise, minimise_with_pivots};

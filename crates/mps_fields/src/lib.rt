@@ -20,6 +20,3 @@ pub use fixed_form::{FixedFields, fields_fixed};
 pub use free_form::{FreeFields, fields_free};
 pub use numbers::{NumberFault, number};
 pub use text_lines::{LineScan, TextLine, lines};
-
-#[cfg(test)]
-mod tests;

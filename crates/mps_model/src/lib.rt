@@ -26,6 +26,3 @@ pub use lines::bound_kind::BoundKind;
 pub use lines::section::Section;
 pub use read_stop::ReadStop;
 pub use reading::read;
-
-#[cfg(test)]
-mod tests;

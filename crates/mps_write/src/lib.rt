@@ -10,6 +10,3 @@ pub use market_split::market;
 pub use plain::is_plain;
 pub use sequence::NoMemory;
 pub use writer::{Text, write};
-
-#[cfg(test)]
-mod tests;

@@ -5,8 +5,6 @@ mod laws;
 mod parts;
 mod point;
 mod sides;
-#[cfg(test)]
-mod tests;
 
 pub use laws::node_points_are_rational_points;
 pub use point::NodePoint;

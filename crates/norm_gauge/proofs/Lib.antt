@@ -4,4 +4,3 @@ pub mod ProgramSteps
 pub mod GaugeSteps
 pub mod NarrowSteps
 pub mod PairGauges
-pub mod WorkedSystems

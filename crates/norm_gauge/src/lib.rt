@@ -4,8 +4,6 @@
 mod gauge;
 mod pairs;
 mod program;
-#[cfg(test)]
-mod tests;
 mod widths;
 
 pub use gauge::Gauge;

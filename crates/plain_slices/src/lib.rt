@@ -8,8 +8,6 @@ mod node;
 mod refute;
 mod side;
 mod single;
-#[cfg(test)]
-mod tests;
 
 pub use moves::plain_move;
 pub use sequence::NoMemory;

@@ -20,6 +20,3 @@ pub use line::{WorkTimes, lift_line};
 pub use outcome::Presolved;
 pub use presolving::presolve;
 pub use work_rows::WorkRows;
-
-#[cfg(test)]
-mod tests;

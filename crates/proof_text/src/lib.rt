@@ -24,6 +24,3 @@ pub use read::{Proof, read_proof};
 pub use sequence::NoMemory;
 pub use shapes::{Pair, SplitWords, cut_pair, numbers_behind, pairs_behind, split_words};
 pub use words::Words;
-
-#[cfg(test)]
-mod tests;

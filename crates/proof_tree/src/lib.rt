@@ -15,8 +15,3 @@ pub use laws::holding_tree_is_sound;
 pub use sequence::NoMemory;
 pub use tree::{Cut, Forest, Mark, Move, PartSplit, PartTree, Searched, Split, Tree};
 pub use walk::search;
-
-#[cfg(test)]
-mod scripted;
-#[cfg(test)]
-mod tests;

@@ -15,6 +15,3 @@ mod table;
 pub use answer::{Extreme, Met, Vertex};
 pub use dict::RangeDict;
 pub use stop::RangeStop;
-
-#[cfg(test)]
-mod tests;

@@ -24,6 +24,3 @@ pub use equality::{Equalities, Equality};
 pub use frame::Frame;
 pub use gap::{Gap, Times};
 pub use outcome::{FrameExcuse, FrameStop, Framed};
-
-#[cfg(test)]
-mod tests;

@@ -16,7 +16,7 @@ use Rattle.proof_tree.specs.declared.tree.Move.TheVariants.{Close, Split, Point}
 use Rattle.proof_tree.specs.Trees.{IsOfSize, on_slice}
 use Rattle.proof_tree.specs.Moves.{widest, nonnegative_part, SplitsUnder, IsMove}
 use Rattle.slice_branch.specs.Framed.{IsFramedMove, IsAllowed, IsMarked, IsThinMove}
-use Rattle.slice_branch.specs.declared.ends.Direction.{Direction}
+use Rattle.node_search.specs.declared.directions.ends.Direction.{Direction}
 use Rattle.slice_branch.specs.declared.place.Place.{Place}
 use Rattle.slice_branch.specs.declared.place.Place.TheVariants as places
 use Rattle.slice_branch.specs.Directions.{IsDirection}

@@ -5,7 +5,7 @@ use Rattle.farkas_rows.specs.declared.path.Slice.{Slice}
 use Rattle.farkas_rows.specs.Inequalities.{below, above}
 use Rattle.proof_tree.specs.Trees.{IsOfSize, IsSplitForm}
 use Rattle.proof_tree.specs.Moves.{widest, ClosesUnder}
-use Rattle.slice_branch.specs.declared.ends.Direction.{Direction}
+use Rattle.node_search.specs.declared.directions.ends.Direction.{Direction}
 
 -- the form is one of a split, and its lines close the ends below its first value and above its last
 pub record IsDirection (rows : WholeRows) (best : Option ℤ) (path : List Slice) (direction : Direction) : Type 0 where

@@ -1,5 +1,6 @@
 pub mod Directions
 pub mod Framed
+pub mod Marked
 pub mod NodeFrames
 pub mod Places
 pub mod Roots

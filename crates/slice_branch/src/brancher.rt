@@ -1,5 +1,6 @@
 //! The brancher of the search by reformulation.
-ghost use Rattle.std.specs.Prelude.{◌≡◌, ◌≤◌, ◌^◌, ◌+◌, ◌*◌, ◌+ℤ◌, pos, List, [], length, Some, None, IfOk, IfSome, OnOk, false};
+ghost use Rattle.std.specs.Prelude.{◌≡◌, ◌≤◌, ◌^◌, ◌+◌, ◌*◌, ◌+ℤ◌, pos, List, [], length, All, Some, None, IfOk, IfSome, OnOk, false};
+ghost use Rattle.farkas_lift.specs.NodeEqualities.{node_equalities};
 ghost use Rattle.proof_tree.specs.Moves.{widest};
 ghost use Rattle.proof_tree.specs.Trees.{on_slice};
 ghost use Rattle.farkas_rows.specs.Refutes.{HasForms};
@@ -11,30 +12,20 @@ ghost use Rattle.slice_branch.specs.Roots.{IsRootOf, IsRootOf-prop};
 ghost use Rattle.slice_branch.specs.ThinMoves.{IsGapForm};
 
 use crate::check::{closes_under, split_of, widest_of};
-use crate::directions::Thin;
-use crate::ends::Direction;
-use crate::forms::root_forms;
 use crate::frames::child_of;
 use crate::gap::gap_direction;
-use crate::halt::Halt;
-use crate::model::OpenModel;
-use crate::near::Task;
 use crate::place::{Node, Place, Settled};
-use crate::row_forms::row_forms;
-use crate::short::Shortener;
-use crate::work::framed_move;
+use crate::work::{Given, framed_move};
+use farkas_lift::node_equalities;
 use farkas_rows::{End, Line, Path};
+use node_search::{Direction, Halt, OpenModel, Programs, Task, row_forms};
 use plain_slices::plain_move;
 use presolve_map::{Presolved, presolve};
 use proof_tree::{Brancher, Cut, Move};
-use range_dict::{RangeDict, RangeStop};
 use reformulate::{Equalities, Frame, Framed};
 use sequence::{NoMemory, Sequence};
 use std::alloc::Global;
 use whole_rows::DenseRows;
-
-/// How many parts of the root are looked at for a point.
-const ROOT_LOOKS: usize = 1000;
 
 /// What presolving left of the rows.
 #[derive(Debug, Drop)]
@@ -108,14 +99,18 @@ impl<'a> SliceBrancher<'a> {
 
 /// Forms that may be thin at a root and below it, where they are found.
 fn further_forms(alloc: Global, root: &Root) -> Result<Vec<Vec<i128>>, NoMemory> {
-    let Root::Open(model) = root else {
-        return Ok(Vec::new(alloc));
-    };
-    match row_forms(alloc, model) {
-        Ok(forms) => Ok(forms),
-        Err(Halt::NoMemory) => Err(NoMemory),
-        Err(Halt::GivesUp) => Ok(Vec::new(alloc)),
+    match root {
+        Root::Open(model) => row_forms(alloc, model, &root_equalities(alloc, model)?),
+        Root::Closed(_) => Ok(Vec::new(alloc)),
     }
+}
+
+/// The equalities of a root, over the work columns.
+fn root_equalities(alloc: Global, model: &OpenModel) -> Result<Equalities, NoMemory>
+    ensures value { IfOk result (λ equalities. equalities ≡ node_equalities model.now.work []) }
+    ensures dense { IfOk result (All (λ equality. length equality.form ≡ length model.now.work.rows.box)) }
+{
+    node_equalities(alloc, &model.work, &Path::new(alloc))
 }
 
 /// A copy of the line.
@@ -131,7 +126,7 @@ fn copy_of(alloc: Global, line: &Line) -> Result<Line, NoMemory> {
 fn open_root<'a>(alloc: Global, model: &'a OpenModel<'a>) -> Result<Place, Halt>
     ensures { IfOk result (IsRootPlace model.now.rows.now) }
 {
-    let equalities = model.equalities(alloc)?;
+    let equalities = root_equalities(alloc, model)?;
     let frame = match Frame::of(alloc, model.work.columns(), &equalities)? {
         Framed::Frame(frame) => frame,
         Framed::NoIntegerPoint(gap) => {
@@ -139,35 +134,12 @@ fn open_root<'a>(alloc: Global, model: &'a OpenModel<'a>) -> Result<Place, Halt>
             return Ok(Place::Settled(Some(Settled::Gap(direction))));
         }
     };
-    let dict = root_dict(alloc, model)?;
-    let short = shortener(alloc, &equalities)?;
-    let forms = root_forms(alloc, &frame, &short)?;
+    let programs = Programs::of_root(alloc, model.rows, &equalities, &frame)?;
     Ok(Place::Framed(Node {
         frame,
-        dict,
-        forms,
-        short,
+        programs,
         depth: 0,
-        looks: ROOT_LOOKS,
     }))
-}
-
-/// What makes forms shorter by the equalities of the root.
-fn shortener(alloc: Global, equalities: &Equalities) -> Result<Shortener, Halt> {
-    let mut short = Shortener::new(alloc);
-    for equality in equalities.items() {
-        short.add(alloc, equality.form.items())?;
-    }
-    Ok(short)
-}
-
-/// The dictionary of the root, where its numbers have 64 bits.
-fn root_dict<'a>(alloc: Global, model: &'a OpenModel<'a>) -> Result<Option<RangeDict>, Halt> {
-    match RangeDict::of(alloc, model.rows, None) {
-        Ok(dict) => Ok(Some(dict)),
-        Err(RangeStop::NoMemory) => Err(Halt::NoMemory),
-        Err(_) => Ok(None),
-    }
 }
 
 impl SliceBrancher<'_> {
@@ -241,22 +213,13 @@ impl SliceBrancher<'_> {
             rows: self.rows,
             path,
             best,
+        };
+        let given = Given {
+            frame: &node.frame,
+            further: &self.further,
             most: self.most,
         };
-        let thin = Thin {
-            frame: &node.frame,
-            forms: &node.forms,
-            short: &node.short,
-            further: &self.further,
-        };
-        framed_move(
-            self.alloc,
-            model,
-            task,
-            thin,
-            &mut node.dict,
-            &mut node.looks,
-        )
+        framed_move(self.alloc, model, task, given, &mut node.programs)
     }
 }
 

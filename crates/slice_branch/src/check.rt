@@ -1,18 +1,15 @@
 //! The checks by which the answers of the fast way are believed.
-ghost use Rattle.std.specs.Prelude.{◌≡◌, ◌≤◌, ◌<ℤ◌, ◌^◌, ◌↔◌, ◌+◌, pos, length, All, Some, IfSome, IsTrue};
-ghost use Rattle.exact_math.specs.Ring.{integers};
-ghost use Rattle.exact_vectors.specs.Vectors.{dot};
+ghost use Rattle.std.specs.Prelude.{◌≡◌, ◌≤◌, ◌^◌, ◌↔◌, ◌+◌, pos, length, All, Some, IfSome, IsTrue};
 ghost use Rattle.whole_rows.specs.WholeRows.{reach};
 ghost use Rattle.farkas_rows.specs.Ends.{inequality_of};
-ghost use Rattle.farkas_rows.specs.Refutes.{HasForms, IsDense, IsOnPath};
+ghost use Rattle.farkas_rows.specs.Refutes.{HasForms, IsDense};
 ghost use Rattle.proof_tree.specs.declared.tree.Mark.TheVariants.{Thin};
-ghost use Rattle.proof_tree.specs.Moves.{widest, ClosesUnder, SplitsUnder, Improves};
+ghost use Rattle.proof_tree.specs.Moves.{widest, ClosesUnder, SplitsUnder};
 ghost use Rattle.proof_tree.specs.Trees.{IsSplitForm};
 ghost use Rattle.slice_branch.specs.Directions.{IsDirection};
 
-use crate::ends::Direction;
-use exact_vectors::dot_checked;
-use farkas_rows::{CutUse, End, Line, Path, Slice, refutes};
+use farkas_rows::{CutUse, End, Line, Path, refutes};
+use node_search::Direction;
 use proof_tree::{Cut, Mark};
 use whole_rows::{Bounds, DenseRows, span_of};
 
@@ -138,50 +135,4 @@ pub(crate) fn split_of(
         above,
         mark: Mark::Thin,
     })
-}
-
-/// Whether the values lie on the slice.
-fn lies_on(slice: &Slice, x: &[i128]) -> bool
-    requires { length slice.now.form ≡ length x.now }
-    ensures { IsTrue result → dot integers slice.now.form x.now ≡ slice.now.beta }
-{
-    match dot_checked(slice.form.items(), x) {
-        Some(value) => value == slice.beta,
-        None => false,
-    }
-}
-
-/// Whether the values lie on each slice.
-fn is_on_path(path: &Path, x: &[i128]) -> bool
-    requires { HasForms (length x.now) path.now }
-    ensures { IsTrue result → IsOnPath path.now x.now }
-{
-    let slices = path.items();
-    for slice in slices {
-        if !lies_on(slice, x) {
-            return false;
-        }
-    }
-    true
-}
-
-/// Whether a value of the costs is below that of the best point, where one is known.
-fn is_better(best: Option<i128>, value: i128) -> bool
-    ensures { IsTrue result ↔ IfSome best (λ known. value <ℤ known) }
-{
-    match best {
-        Some(known) => value < known,
-        None => true,
-    }
-}
-
-/// Whether the values are a point of the rows on the path that is better than the best one.
-pub(crate) fn improves(rows: &DenseRows, best: Option<i128>, path: &Path, x: &[i128]) -> bool
-    requires { HasForms (length rows.now.box) path.now }
-    ensures { IsTrue result → Improves rows.now best path.now x.now }
-{
-    x.len() == rows.columns()
-        && rows.is_point(x)
-        && is_on_path(path, x)
-        && is_better(best, rows.cut_value(x))
 }

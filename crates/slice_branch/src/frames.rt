@@ -1,38 +1,21 @@
 //! Frames of slices.
-ghost use Rattle.std.specs.Prelude.{◌≡◌, ◌≤◌, ◌+◌, ◌<◌, ◌↔◌, ◌+ℤ◌, ◌-ℤ◌, List, [], IfOk, IfSome, IsTrue, OnOk, get_or, length, pos};
+ghost use Rattle.std.specs.Prelude.{◌≡◌, ◌≤◌, ◌+◌, ◌<◌, ◌↔◌, ◌+ℤ◌, ◌-ℤ◌, List, [], IfOk, IsTrue, OnOk, get_or, length};
 ghost use Rattle.farkas_rows.specs.declared.path.Slice.{Slice};
 ghost use Rattle.proof_tree.specs.Trees.{on_slice};
 ghost use Rattle.spaces.specs.Maps.{pulled_constant, pulled_form};
-ghost use Rattle.unimodular_pair.specs.Gathering.{common_divisor, IsGatheredPair};
+ghost use Rattle.unimodular_pair.specs.Gathering.{IsGatheredPair};
 ghost use Rattle.reformulate.specs.Slices.{IsSlice};
 ghost use Rattle.reformulate.specs.Substitutions.{dimension_of, IsSubstitution};
 ghost use Rattle.slice_branch.specs.NodeFrames.{IsKeptFactor, IsKeptForm, IsNodeFrame};
 
-use crate::forms::slice_forms;
-use crate::halt::Halt;
-use crate::model::OpenModel;
 use crate::place::Node;
-use frac128::gcd;
+use node_search::{Halt, OpenModel, Sliced, divisor_of};
 use proof_tree::Cut;
 use reformulate::Frame;
 use spaces::{Form, Kernel, Work};
 use std::alloc::Global;
 use unimodular_pair::Pair;
 use whole_rows::Bounds;
-
-/// The greatest common divisor of factors; none where one of them has no size.
-pub(crate) fn divisor_of(factors: &[i128]) -> Option<i128>
-    ensures { IfSome result (λ divisor. divisor ≡ pos (common_divisor factors.now)) }
-{
-    let Some((first, rest)) = factors.split_first() else {
-        return Some(0);
-    };
-    let divisor = divisor_of(rest)?;
-    if *first == i128::MIN {
-        return None;
-    }
-    Some(gcd(*first, divisor))
-}
 
 /// Whether a factor is 0 where its column has one value.
 fn is_kept_factor(bounds: Bounds, factor: i128) -> bool
@@ -129,7 +112,7 @@ fn slice_of(alloc: Global, frame: &Frame, pair: &Pair, value: i128) -> Result<Fr
     Ok(slice)
 }
 
-/// The frame and the dictionary of slice `j` of a split of a node.
+/// The node of slice `j` of a split of a node.
 pub(crate) fn child_of(
     alloc: Global,
     model: &OpenModel,
@@ -148,20 +131,20 @@ pub(crate) fn child_of(
     let turned = turn(alloc, model, &node.frame, cut, value)?;
     let pair = completed(alloc, &node.frame, &turned.kernel)?;
     let frame = slice_of(alloc, &node.frame, &pair, turned.value)?;
-    let dict = match &node.dict {
-        Some(dict) => Some(dict.child(alloc, cut.form.items(), value)?),
-        None => None,
-    };
-    let mut short = node.short.copied(alloc)?;
-    short.add(alloc, turned.work.items())?;
-    let forms = slice_forms(alloc, &node.forms, &node.frame, &pair, &frame, &short)?;
-    let depth = node.depth + 1;
+    let programs = node.programs.of_slice(
+        alloc,
+        Sliced {
+            form: &cut.form,
+            value,
+            work: &turned.work,
+            frame: &node.frame,
+            pair: &pair,
+            slice: &frame,
+        },
+    )?;
     Ok(Node {
         frame,
-        dict,
-        forms,
-        short,
-        depth,
-        looks: node.looks,
+        programs,
+        depth: node.depth + 1,
     })
 }

@@ -4,10 +4,10 @@ ghost use Rattle.farkas_lift.specs.NodeEqualities.{node_equalities};
 ghost use Rattle.reformulate.specs.Gaps.{IsGap};
 ghost use Rattle.slice_branch.specs.ThinMoves.{IsGapForm};
 
-use crate::ends::Direction;
-use crate::halt::Halt;
-use crate::model::{OpenModel, add_row};
+use exact_vectors::add_product;
+use farkas_lift::common_side;
 use farkas_rows::{Line, Use, Uses};
+use node_search::{Direction, Halt, OpenModel};
 use reformulate::Gap;
 use std::alloc::Global;
 use whole_rows::DenseRows;
@@ -19,12 +19,11 @@ struct RowTime {
     time: i128,
 }
 
-/// The rows of the equalities with their times in the gap. `OpenModel::equalities` has the equalities in the same order.
+/// The rows of the equalities with their times in the gap. `node_equalities` has the equalities in the same order.
 fn row_times(alloc: Global, model: &OpenModel, gap: &Gap) -> Result<Vec<RowTime>, Halt> {
     let mut found = Vec::new(alloc);
     for i in 0..model.work.rows() {
-        let low = model.work.low(i);
-        if low.is_some() && low == model.work.high(i) {
+        if common_side(model.work.low(i), model.work.high(i)).is_some() {
             let Some(time) = gap.times.items().get(found.len()).copied() else {
                 return Err(Halt::GivesUp);
             };
@@ -35,16 +34,16 @@ fn row_times(alloc: Global, model: &OpenModel, gap: &Gap) -> Result<Vec<RowTime>
     Ok(found)
 }
 
-/// What the rows, so many times, come to in each column.
-fn column_sums(alloc: Global, rows: &DenseRows, times: &[RowTime]) -> Result<Vec<i128>, Halt> {
-    let mut sums = vec![in alloc; 0i128; rows.columns()]?;
+/// What the rows, so many times, come to in a column.
+fn column_sum(rows: &DenseRows, times: &[RowTime], column: usize) -> Option<i128> {
+    let mut sum = 0;
     for item in times {
-        if item.row >= rows.rows() {
-            return Err(Halt::GivesUp);
+        if item.row >= rows.rows() || column >= rows.columns() {
+            return None;
         }
-        add_row(&mut sums, rows.row(item.row), item.time).ok_or(Halt::GivesUp)?;
+        sum = add_product(sum, rows.row(item.row)[column], item.time)?;
     }
-    Ok(sums)
+    Some(sum)
 }
 
 /// Puts so many times the inequality of an upper side or upper bound at the end, and so many times that of the lower one, which
@@ -67,10 +66,11 @@ fn push_use(uses: &mut Uses, upper: usize, times: i128) -> Result<(), Halt> {
 }
 
 /// Puts the bounds of the removed columns at the end, which take the sums there to 0.
-fn push_bounds(uses: &mut Uses, rows: &DenseRows, sums: &[i128]) -> Result<(), Halt> {
-    for column in 0..rows.columns().min(sums.len()) {
+fn push_bounds(uses: &mut Uses, rows: &DenseRows, times: &[RowTime]) -> Result<(), Halt> {
+    for column in 0..rows.columns() {
         if rows.box_low(column) == rows.box_high(column) {
-            let times = sums[column].checked_neg().ok_or(Halt::GivesUp)?;
+            let sum = column_sum(rows, times, column).ok_or(Halt::GivesUp)?;
+            let times = sum.checked_neg().ok_or(Halt::GivesUp)?;
             push_use(uses, 2 * (rows.rows() + column), times)?;
         }
     }
@@ -92,8 +92,7 @@ fn end_line(
         }
         push_use(&mut items, 2 * item.row, item.time)?;
     }
-    let sums = column_sums(alloc, rows, times)?;
-    push_bounds(&mut items, rows, &sums)?;
+    push_bounds(&mut items, rows, times)?;
     push_use(&mut items, 2 * (rows.rows() + rows.columns()), divisor)?;
     Ok(Line { cut: None, items })
 }

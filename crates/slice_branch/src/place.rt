@@ -1,24 +1,15 @@
 //! What a brancher keeps of a node.
-use crate::ends::Direction;
-use crate::short::Shortener;
 use farkas_rows::Line;
-use range_dict::RangeDict;
+use node_search::{Direction, Programs};
 use reformulate::Frame;
-use spaces::{Grid, Work};
 
-/// A node in the coordinates of a frame, with the dictionary of its linear programs, where it has one in whole numbers of
-/// 64 bits.
+/// A node in the coordinates of a frame, with what it keeps for its programs.
 #[derive(Debug, Drop)]
 pub struct Node {
     pub(crate) frame: Frame,
-    pub(crate) dict: Option<RangeDict>,
-    /// Short forms that have the values of the frame's coordinates, up to constants.
-    pub(crate) forms: Grid<Work, i128>,
-    pub(crate) short: Shortener,
+    pub(crate) programs: Programs,
     /// How many slices lead to the node.
     pub(crate) depth: usize,
-    /// How many parts of the node may still be looked at for a point.
-    pub(crate) looks: usize,
 }
 
 /// What settles a root before it is searched.

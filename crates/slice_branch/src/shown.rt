@@ -3,11 +3,9 @@ ghost use Rattle.std.specs.Prelude.{◌≡◌, length, Any, IfOk, IsTrue, OnOk};
 ghost use Rattle.farkas_rows.specs.Refutes.{HasForms};
 ghost use Rattle.slice_branch.specs.SeenPoints.{ArePoints, IsAtLeastAt, IsAtMostAt, ShowEnds};
 
-use crate::halt::Halt;
-use crate::near::Task;
-use crate::seen::Seen;
 use exact_vectors::dot_checked;
 use node_point::NodePoint;
+use node_search::{Halt, Task};
 use range_dict::Vertex;
 use std::alloc::Global;
 
@@ -15,13 +13,13 @@ use std::alloc::Global;
 pub(crate) fn believed<'a>(
     alloc: Global,
     task: Task<'a>,
-    seen: &Seen,
+    seen: &[Vertex],
 ) -> Result<Vec<NodePoint>, Halt>
     requires { HasForms (length task.rows.now.box) task.path.now }
     ensures { IfOk result (λ points. ArePoints task.entry.rows.now task.entry.path.now task.entry.best points.items) }
 {
     let mut points = Vec::new(alloc);
-    for vertex in seen.points() {
+    for vertex in seen {
         push_believed(alloc, task, &mut points, vertex)?;
     }
     Ok(points)

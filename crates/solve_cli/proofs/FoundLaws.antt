@@ -45,6 +45,7 @@ module _ (plain : Bool) (nodes : ℕ) (model : Model) (has : HasRows model) wher
     best = (has.best point).1 done.least;
     tree = tree;
     shown = done.holds;
+    marked = (plain, done.follows);
     within = done.counted;
     report = ap (λ lines. with_proof lines (proof_text (claims.Optimal point) tree)) (found_same columns (codes "OPTIMAL") value (value_at model point) point a (records tree) b (plain_splits tree) is_value is_a is_b);
     accepted = written_accepted (rows_of model) (claims.Optimal point) tree limits done.known done.holds;
@@ -57,6 +58,7 @@ module _ (plain : Bool) (nodes : ℕ) (model : Model) (has : HasRows model) wher
     none = λ x point. done.least x ((has.points x).0 point);
     tree = tree;
     shown = done.holds;
+    marked = (plain, done.follows);
     within = done.counted;
     report = ap (λ lines. with_proof lines (proof_text claims.Infeasible tree)) (bare_same (codes "INFEASIBLE") a (records tree) b (plain_splits tree) is_a is_b);
     accepted = written_accepted (rows_of model) claims.Infeasible tree limits tt done.holds;
@@ -74,6 +76,7 @@ module _ (plain : Bool) (nodes : ℕ) (model : Model) (has : HasRows model) wher
     known = (has.points point).1 spent.known;
     part = part;
     shown = spent.holds;
+    marked = (plain, spent.follows);
     counted = spent.counted;
     unfinished = spent.unfinished;
     few = few_nodes spent.few;
@@ -87,6 +90,7 @@ module _ (plain : Bool) (nodes : ℕ) (model : Model) (has : HasRows model) wher
     known = tt;
     part = part;
     shown = spent.holds;
+    marked = (plain, spent.follows);
     counted = spent.counted;
     unfinished = spent.unfinished;
     few = few_nodes spent.few;

@@ -7,6 +7,7 @@ use Rattle.proof_tree.specs.Trees.{Holds}
 use Rattle.proof_tree.specs.PartTrees.{HoldsPart}
 use Rattle.proof_tree.specs.Counts.{records, plain_splits, records_of_part, plain_splits_of_part, open_runs}
 use Rattle.proof_tree.specs.Moves.{widest}
+use Rattle.slice_branch.specs.Marked.{IsMarkedTree, IsMarkedPart}
 use Rattle.proof_text.specs.declared.claim.Claim.{Claim}
 use Rattle.proof_text.specs.declared.claim.Claim.TheVariants as claims
 use Rattle.proof_text.specs.Spelling.{proof_text, part_text}
@@ -38,7 +39,8 @@ rows_of model = (integer_rows model).whole
 abbrev pub enough_nodes : Model → ℕ
 enough_nodes model = (widest (rows_of model).box + 2) ^ (2 * length model.columns)
 
--- No part is too large, and a best point was found: a tree of no more nodes than the budget shows that none is better. The report
+-- No part is too large, and a best point was found: a tree of no more nodes than the budget, whose splits are marked by what they are, shows that none
+-- is better. The report
 -- has a line for each of these columns. The proof claims that point, a checker accepts it, and it is within the limit of a proof.
 pub record FindsBest (columns : List Column) (nodes : ℕ) (model : Model) (out : Output) : Type 0 where
   pub small : HasNoLargePart model
@@ -46,18 +48,20 @@ pub record FindsBest (columns : List Column) (nodes : ℕ) (model : Model) (out 
   pub best : IsBest model point
   pub tree : Tree
   pub shown : Holds (rows_of model) (Some (cut_value (rows_of model) point)) [] tree
+  pub marked : IsMarkedTree (rows_of model) (Some (cut_value (rows_of model) point)) tree
   pub within : records tree ≤ nodes
   pub report : out ≡ with_proof (found_lines (codes "OPTIMAL") (value_at model point) columns point (records tree) (plain_splits tree)) (proof_text (claims.Optimal point) tree)
   pub accepted : Accepts (rows_of model) out.proof (claims.Optimal point)
   pub short : length out.proof ≤ most_proof_bytes
 
--- No part is too large, and the model has no point, as a tree of no more nodes than the budget shows. A checker
+-- No part is too large, and the model has no point, as a tree of no more nodes than the budget shows, whose splits are marked by what they are. A checker
 -- accepts the proof, which is within the limit.
 pub record FindsNone (nodes : ℕ) (model : Model) (out : Output) : Type 0 where
   pub small : HasNoLargePart model
   pub none : (x : List ℤ) → IsPoint model x → ⊥
   pub tree : Tree
   pub shown : Holds (rows_of model) None [] tree
+  pub marked : IsMarkedTree (rows_of model) None tree
   pub within : records tree ≤ nodes
   pub report : out ≡ with_proof (bare_lines (codes "INFEASIBLE") (records tree) (plain_splits tree)) (proof_text claims.Infeasible tree)
   pub accepted : Accepts (rows_of model) out.proof claims.Infeasible
@@ -76,6 +80,7 @@ pub record SpendsBudget (columns : List Column) (nodes : ℕ) (model : Model) (o
   pub known : IfSome best (IsPoint model)
   pub part : PartTree
   pub shown : HoldsPart (rows_of model) (option_map (cut_value (rows_of model)) best) [] part
+  pub marked : IsMarkedPart (rows_of model) (option_map (cut_value (rows_of model)) best) part
   pub counted : records_of_part part ≡ nodes
   pub unfinished : 0 < open_runs part
   pub few : nodes < enough_nodes model

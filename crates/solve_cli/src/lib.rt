@@ -23,6 +23,3 @@ pub use status::{Input, Status};
 pub use verdict_law::one_status_is_given;
 pub use words::{Command, WordsStop, read_words};
 pub use words_law::command_is_spelled;
-
-#[cfg(test)]
-mod tests;

@@ -2,18 +2,12 @@
 #![tactic(auto)]
 
 mod affine;
-#[cfg(test)]
-mod affine_tests;
 mod form;
 mod grid;
-#[cfg(test)]
-mod grid_tests;
 mod map_stop;
 mod multiple;
 mod products;
 mod space;
-#[cfg(test)]
-mod tests;
 mod vect;
 
 pub use affine::{Affine, Pulled};

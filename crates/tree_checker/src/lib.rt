@@ -15,6 +15,3 @@ mod verdict;
 pub use laws::{accepted_by_lines, accepted_is_true, one_verdict};
 pub use text::check;
 pub use verdict::{Reject, RejectKind, Verdict};
-
-#[cfg(test)]
-mod tests;

@@ -17,6 +17,3 @@ pub use nearest::nearest_factor;
 pub use pair::Pair;
 pub use step::{Step, Steps};
 pub use stop::CompleteStop;
-
-#[cfg(test)]
-mod tests;

@@ -14,6 +14,3 @@ pub use dense_rows::DenseRows;
 pub use ends::{End, reaches_sides};
 pub use stops::{BoxStop, HeavyCost, RowStop};
 pub use weights::{HEAVIEST, span_of, with_term};
-
-#[cfg(test)]
-mod tests;

@@ -1,5 +1,0 @@
-use Rattle.generalised_reduce.proofs.WorkedStrip.{strip_ready_from}
-use Rattle.generalised_reduce.proofs.tests.a_skew_strip_is_thin_across.Goals as goal
-
-pub thin-requires-clause-ready : goal.thin-requires-clause-ready
-thin-requires-clause-ready g c = strip_ready_from _ _ c.in_ok-system.ensures.0 c.in_ok-system.ensures.1

@@ -1,5 +1,0 @@
-use Rattle.int_model.specs.IntegerRows.{IsDistinctBelow}
-use Rattle.int_model.proofs.tests.items_of.Given as goal
-
-abbrev pub invariant-loop-j : goal.invariant-loop-j
-invariant-loop-j l = IsDistinctBelow l.j l.items

@@ -1,5 +1,0 @@
-use Rattle.lattice_reduce.proofs.IndependentRows.{even_row}
-use Rattle.lattice_reduce.proofs.tests.a_vector_gets_short_beside_a_row.Goals as goal
-
-pub reduce_beside-requires-clause-independent : goal.reduce_beside-requires-clause-independent
-reduce_beside-requires-clause-independent g c = even_row c.in_ok-basis.basis c.in_ok-basis.ensures

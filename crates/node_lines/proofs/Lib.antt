@@ -1,0 +1,4 @@
+pub mod FractionLaws
+pub mod NodeNumbers
+pub mod NodeSums
+pub mod Refuting

@@ -1,0 +1,4 @@
+pub mod NodeSystems
+pub mod NodeLines
+pub mod Combinations
+pub mod SystemLaws

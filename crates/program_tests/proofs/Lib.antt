@@ -1,0 +1,3 @@
+pub mod WorkedPrograms
+pub mod WorkedWidths
+pub mod WorkedStrip

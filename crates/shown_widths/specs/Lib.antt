@@ -1,0 +1,4 @@
+pub mod Columns
+pub mod Points
+pub mod Steps
+pub mod Thin

@@ -1,5 +1,0 @@
-use Rattle.std.proofs.Common.{◌≡◌}
-use Rattle.slice_branch.proofs.forms.product.Given as goal
-
-abbrev pub invariant-loop-i : goal.invariant-loop-i
-invariant-loop-i g l = record { height : l.all.rows ≡ l.left.rows; width : l.all.width ≡ l.initial.all.width }

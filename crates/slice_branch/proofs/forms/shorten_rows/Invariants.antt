@@ -1,5 +1,0 @@
-use Rattle.std.proofs.Common.{◌≡◌}
-use Rattle.slice_branch.proofs.forms.shorten_rows.Given as goal
-
-abbrev pub invariant-loop-i : goal.invariant-loop-i
-invariant-loop-i l = record { height : l.forms.rows ≡ l.i-end; width : l.forms.width ≡ l.initial.forms.width }

@@ -1,5 +1,0 @@
-use Rattle.std.proofs.Common.{length}
-use Rattle.slice_branch.proofs.frames.+divisor_of.Given as goal
-
-abbrev pub decreases-divisor_of : goal.decreases-divisor_of
-decreases-divisor_of l = length l.factors.now

@@ -1,0 +1,7 @@
+//! Tests of the program's commands.
+#![tactic(auto)]
+
+#[cfg(test)]
+mod commands;
+#[cfg(test)]
+mod model_texts;

@@ -1,0 +1,4 @@
+pub mod PartSteps
+pub mod RowSteps
+pub mod ChoiceSteps
+pub mod WorkedSystems

@@ -1,0 +1,5 @@
+pub mod Parts
+pub mod Candidates
+pub mod Stops
+pub mod Choices
+pub mod BoundLaws
