@@ -1,5 +1,6 @@
 mod ColumnLaws
 mod DirectionLaws
+mod OneCoordinateLaws
 mod ShownLaws
 mod SideLaws
 mod SlackLaws
