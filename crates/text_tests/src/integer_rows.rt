@@ -54,9 +54,8 @@ fn sides_and_bounds_are_rounded_inward(rt: HostRuntime) -> Result<(), Fail> {
     Ok(())
 }
 
-/// Texts, and the first part that is too large. 79228162514264337593543950336 is 2^96, 1125899906842624e-50 is 5^-50, and
-/// 88817841970012523233890533447265625e-50 is 2^-50. 18014398509481984e-54 is 5^-54, a quarter of which is no fraction here.
-const CASES: [(&[u8], Option<Part>); 8] = [
+/// Texts, and the first part that is too large. 79228162514264337593543950336 is 2^96, and a quarter of 10^-38 is no fraction here.
+const CASES: [(&[u8], Option<Part>); 6] = [
     // Columns before rows, and rows before the objective; the first row has just the limit.
     (
         b"ROWS\n N c\n L r\nCOLUMNS\n x c 79228162514264337593543950337 r 1\n y r 1\nRHS\n r 79228162514264337593543950336\nBOUNDS\n BV x\n UI y 79228162514264337593543950337\nENDATA\n",
@@ -70,22 +69,13 @@ const CASES: [(&[u8], Option<Part>); 8] = [
         b"ROWS\n N c\nCOLUMNS\n x c 79228162514264337593543950337\nBOUNDS\n BV x\nENDATA\n",
         Some(Part::Objective),
     ),
-    // Common denominators above 2^127 - 1.
-    (
-        b"ROWS\n G r\nCOLUMNS\n x r 1125899906842624e-50\n y r 88817841970012523233890533447265625e-50\nBOUNDS\n BV x\n BV y\nENDATA\n",
-        Some(Part::Row(0)),
-    ),
-    (
-        b"ROWS\n N c\nCOLUMNS\n x c 1125899906842624e-50\n y c 88817841970012523233890533447265625e-50\nBOUNDS\n BV x\n BV y\nENDATA\n",
-        Some(Part::Objective),
-    ),
     // Products with the scale that are out of range, and none where all factors are 0.
     (
-        b"ROWS\n G r\nCOLUMNS\n x r 4\nRHS\n r 18014398509481984e-54\nBOUNDS\n BV x\nENDATA\n",
+        b"ROWS\n G r\nCOLUMNS\n x r 4\nRHS\n r 1e-38\nBOUNDS\n BV x\nENDATA\n",
         Some(Part::Row(0)),
     ),
     (
-        b"ROWS\n G r\nCOLUMNS\n x r 0\nRHS\n r 18014398509481984e-54\nBOUNDS\n BV x\nENDATA\n",
+        b"ROWS\n G r\nCOLUMNS\n x r 0\nRHS\n r 1e-38\nBOUNDS\n BV x\nENDATA\n",
         None,
     ),
     (
