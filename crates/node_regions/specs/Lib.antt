@@ -1,4 +1,15 @@
 pub mod KeptValues
+pub mod NodeFrames
 pub mod NodePointLaws
 pub mod NodeRegions
+pub mod NodesWithFrames
+pub mod PlacedPoints
+pub mod PlacedPointLaws
+pub mod KeptFormLaws
+pub mod MetNodes
+pub mod MetNodeLaws
+pub mod CoordinateLaws
+pub mod SystemLaws
+pub mod EndLaws
+pub mod LightFormLaws
 pub mod RegionPoints

@@ -1,5 +1,5 @@
 -- The region of a node in the coordinates of a frame of its equalities: the rational points of its other inequalities.
-use Rattle.std.specs.Prelude.{◌≡◌, ℤ, List, map, Option}
+use Rattle.std.specs.Prelude.{ℤ, List, map, Option}
 use Rattle.exact_math.specs.Rational.{ℚ, whole}
 use Rattle.lp_dict.specs.Systems.{wholes}
 use Rattle.norm_gauge.specs.Widths.{Polytope, Has}

@@ -11,6 +11,7 @@ use Rattle.exact_math.specs.RingLaws as Laws
 use Rattle.exact_vectors.specs.Vectors.{zeros}
 use Rattle.form_widths.specs.Directions.{IsDirection, IsFreeColumn}
 use Rattle.form_widths.specs.Widths.{IsNoWiderThan, IsNonzero, IsPrimitive}
+use Rattle.frac128.specs.Range.{IsNarrow}
 use Rattle.generalised_reduce.specs.Reduced.{IsWithinFactor}
 use Rattle.lp_dict.specs.Systems.{wholes}
 use Rattle.norm_gauge.specs.Gauges.{IsGauge}
@@ -31,11 +32,12 @@ once bound = Laws.one_mul rationals bound
 
 -- ---- the first row
 
-pub chosen_first : (p : Polytope) (lines : List (List ℤ)) (form : List ℤ) (g : Gauge) → IsFirstOfReduced p form → length form ≡ p.coordinates → IsPrimitive form → IsGauge p [] (wholes form) g → IsWithinFactor p (4 ^ (p.coordinates - 1)) (wholes form) → IsChosen p lines 0 form g
-chosen_first p lines form g first long primitive is within = record {
+pub chosen_first : (p : Polytope) (lines : List (List ℤ)) (form : List ℤ) (g : Gauge) → IsFirstOfReduced p form → length form ≡ p.coordinates → IsPrimitive form → All IsNarrow form → IsGauge p [] (wholes form) g → IsWithinFactor p (4 ^ (p.coordinates - 1)) (wholes form) → IsChosen p lines 0 form g
+chosen_first p lines form g first long primitive narrow is within = record {
   candidate = inr first;
   coordinates = long;
   primitive = primitive;
+  narrow = narrow;
   is_gauge = is;
   thin = λ other same some bound h. attained p form g _ is (within other bound same some h);
   columns = λ column other lt. absurd (omega arith);
@@ -49,6 +51,7 @@ chosen_none p lines j form g none before = record {
   candidate = before.candidate;
   coordinates = before.coordinates;
   primitive = before.primitive;
+  narrow = before.narrow;
   is_gauge = before.is_gauge;
   thin = before.thin;
   columns = λ column other lt free.
@@ -67,6 +70,7 @@ chosen_kept p lines j form part g new is gauge le before = record {
   candidate = before.candidate;
   coordinates = before.coordinates;
   primitive = before.primitive;
+  narrow = before.narrow;
   is_gauge = before.is_gauge;
   thin = before.thin;
   columns = λ column other lt free.
@@ -74,15 +78,16 @@ chosen_kept p lines j form part g new is gauge le before = record {
 }
 
 -- one that is
-pub chosen_new : (p : Polytope) (lines : List (List ℤ)) (j : ℕ) (form part : List ℤ) (g new : Gauge) → j < length lines → length part ≡ p.coordinates → IsPrimitivePart (get_or lines j []) part → IsGauge p [] (wholes part) new → new.value <ℚ g.value → IsChosen p lines j form g
+pub chosen_new : (p : Polytope) (lines : List (List ℤ)) (j : ℕ) (form part : List ℤ) (g new : Gauge) → j < length lines → length part ≡ p.coordinates → All IsNarrow part → IsPrimitivePart (get_or lines j []) part → IsGauge p [] (wholes part) new → new.value <ℚ g.value → IsChosen p lines j form g
     → IsChosen p lines (suc j) part new
-chosen_new p lines j form part g new inside long is gauge less before =
+chosen_new p lines j form part g new inside long narrow is gauge less before =
     let le : new.value ≤ℚ g.value = Order.le_of_lt new.value g.value less in
     let free : IsFreeColumn lines j part = part_is_free lines j part inside is in
     record {
       candidate = inl (j, free);
       coordinates = long;
       primitive = free.primitive;
+      narrow = narrow;
       is_gauge = gauge;
       thin = λ other same some bound h. Order.le_trans new.value g.value _ le (before.thin other same some bound h);
       columns = λ column other lt free_other.

@@ -1,10 +1,11 @@
 -- What is known of the form that is chosen so far.
-use Rattle.std.specs.Prelude.{◌≡◌, ◌≢◌, ℕ, ◌-◌, ◌^◌, ◌<◌, ℤ, pos, List, [], length}
+use Rattle.std.specs.Prelude.{◌≡◌, ◌≢◌, ℕ, ◌-◌, ◌^◌, ◌<◌, ℤ, pos, List, [], length, All}
 use Rattle.exact_math.specs.Rational.{ℚ, whole, ◌*ℚ◌, ◌≤ℚ◌}
 use Rattle.exact_math.specs.Ring.{integers}
 use Rattle.exact_vectors.specs.Vectors.{zeros}
 use Rattle.form_widths.specs.Directions.{IsFreeColumn}
 use Rattle.form_widths.specs.Widths.{IsPrimitive}
+use Rattle.frac128.specs.Range.{IsNarrow}
 use Rattle.lp_dict.specs.Systems.{wholes}
 use Rattle.norm_gauge.specs.Gauges.{IsGauge}
 use Rattle.norm_gauge.specs.Widths.{IsAtMost, Polytope}
@@ -21,6 +22,7 @@ pub record IsChosen (p : Polytope) (lines : List (List ℤ)) (count : ℕ) (form
   pub candidate : IsCandidate p lines form
   pub coordinates : length form ≡ p.coordinates
   pub primitive : IsPrimitive form
+  pub narrow : All IsNarrow form
   pub is_gauge : IsGauge p [] (wholes form) gauge
   pub thin : (other : List ℤ) → length other ≡ p.coordinates → other ≢ zeros integers p.coordinates → IsBelowBounds p (4 ^ (p.coordinates - 1)) gauge.value other
   pub columns : (column : ℕ) (other : List ℤ) → column < count → IsFreeColumn lines column other → IsBelowBounds p 1 gauge.value other

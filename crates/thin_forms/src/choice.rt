@@ -30,6 +30,7 @@ fn first_row(alloc: Global, system: &System) -> Result<ThinForm, ThinStop>
     ensures first { IfOk result (λ t. IsFirstOfReduced (polytope_of system.now.rows system.now.limits) t.form) }
     ensures coordinates { IfOk result (λ t. length t.form ≡ system.now.rows.width) }
     ensures primitive { IfOk result (λ t. IsPrimitive t.form) }
+    ensures narrow { IfOk result (λ t. All IsNarrow t.form) }
     ensures gauge { IfOk result (λ t. IsGauge (polytope_of system.now.rows system.now.limits) [] (wholes t.form) t.gauge) }
     ensures thin { IfOk result (λ t. IsWithinFactor (polytope_of system.now.rows system.now.limits) (4 ^ (system.now.rows.width - 1)) (wholes t.form)) }
     ensures stop { IfErr result (ThinStopIs (polytope_of system.now.rows system.now.limits)) }
@@ -101,6 +102,7 @@ pub fn thinnest(
     requires width { lines.now.width ≡ system.now.rows.width }
     requires narrow { All IsNarrow lines.now.items }
     ensures direction { IfOk result (λ t. IsDirection (Has (polytope_of system.now.rows system.now.limits)) system.now.rows.width (rows_in lines.now) t.form) }
+    ensures narrow { IfOk result (λ t. All IsNarrow t.form) }
     ensures candidate { IfOk result (λ t. IsCandidate (polytope_of system.now.rows system.now.limits) (rows_in lines.now) t.form) }
     ensures gauge { IfOk result (λ t. IsGauge (polytope_of system.now.rows system.now.limits) [] (wholes t.form) t.gauge) }
     ensures stop { IfErr result (ThinFormStopIs (polytope_of system.now.rows system.now.limits) (rows_in lines.now)) }

@@ -1,5 +1,6 @@
-use Rattle.std.proofs.Common.{◌≡◌, ◌-◌, ◌^◌, ◌<◌, [], length, get_or, ap, arith, rules, subst, sym, ◌∙◌}
+use Rattle.std.proofs.Common.{◌≡◌, ◌-◌, ◌^◌, ◌<◌, [], length, get_or, ap, arith, rules, subst, sym, ◌∙◌, All}
 use Rattle.form_widths.specs.Widths.{IsPrimitive}
+use Rattle.frac128.specs.Range.{IsNarrow}
 use Rattle.generalised_reduce.specs.MoveLaws.{form_is}
 use Rattle.generalised_reduce.specs.Reduced.{IsWithinFactor, form_at, forms_of}
 use Rattle.generalised_reduce.proofs.TestSteps.{row_is}
@@ -57,3 +58,12 @@ returns-in-Ok-clause-thin c =
     let first : c.of.result ≡ get_or m.u 0 [] = c.of.ensures ∙ c.in-Ok.ensures.items ∙ row_is c.u.result.now m 0 c.row.result.now rows inside c.row.ensures.value in
     let thin : IsWithinFactor p (4 ^ (p.coordinates - 1)) (form_at (forms_of m) 0) = subst (λ r. IsWithinFactor p (4 ^ (r - 1)) (form_at (forms_of m) 0)) c.width-count.ensures.count c.in_ok-pair.ensures.thin in
     subst (IsWithinFactor p (4 ^ (p.coordinates - 1))) (sym (ap wholes first ∙ form_is m 0 there)) thin
+
+pub returns-in-Ok-clause-narrow : goal.returns-in-Ok-clause-narrow
+returns-in-Ok-clause-narrow c =
+    let m = c.in_ok-pair.field-0.pair in
+    let rows : rows_in c.u.result.now ≡ m.u = search rules in
+    let inside : 0 < c.u.result.now.rows = omega (arith, c.u.ensures.height, ap length rows, c.in_ok-pair.ensures.inverse.height_u, c.requires.ready.some, c.width-count.ensures.count) in
+    let there : 0 < length m.u = omega (arith, c.in_ok-pair.ensures.inverse.height_u, c.requires.ready.some, c.width-count.ensures.count) in
+    let first : c.of.result ≡ get_or m.u 0 [] = c.of.ensures ∙ c.in-Ok.ensures.items ∙ row_is c.u.result.now m 0 c.row.result.now rows inside c.row.ensures.value in
+    subst (All IsNarrow) (sym first) (c.in_ok-pair.ensures.narrow 0 [] there)

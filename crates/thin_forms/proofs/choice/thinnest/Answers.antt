@@ -9,7 +9,7 @@ pub loop-j-init : goal.loop-j-init
 loop-j-init c =
     let p = polytope_of c.args.system.now.rows c.args.system.now.limits in
     let found = c.in_ok-best.ensures in
-    chosen_first p (rows_in c.args.lines.now) c.in_ok-best.best.form c.in_ok-best.best.gauge found.first found.coordinates found.primitive found.gauge found.thin
+    chosen_first p (rows_in c.args.lines.now) c.in_ok-best.best.form c.in_ok-best.best.gauge found.first found.coordinates found.primitive found.narrow found.gauge found.thin
 
 pub returns-clause-direction : goal.returns-clause-direction
 returns-clause-direction c =

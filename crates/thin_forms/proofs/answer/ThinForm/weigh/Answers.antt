@@ -53,7 +53,8 @@ returns-else-le-clause-chosen c =
     let part : IsPrimitivePart (get_or lines c.args.j []) form = subst (λ l. IsPrimitivePart l form) line alone in
     let inside : c.args.j < length lines = omega (arith, count_is c.args.lines.now, c.requires.inside) in
     let less : c.in-Ok.gauge.value <ℚ c.args.self.now.gauge.value = le_false c.args.self.now.gauge.value c.in-Ok.gauge.value (sym c.le.ensures ∙ c.if-le.false) in
-    chosen_new p lines c.args.j c.args.self.now.form form c.args.self.now.gauge c.in-Ok.gauge inside long part c.in-Ok.ensures.gauge less c.requires.chosen
+    let narrow : All IsNarrow form = subst (λ o. IfSome o (All IsNarrow)) c.in-Some.is c.in_ok-form.ensures.narrow in
+    chosen_new p lines c.args.j c.args.self.now.form form c.args.self.now.gauge c.in-Ok.gauge inside long narrow part c.in-Ok.ensures.gauge less c.requires.chosen
 
 pub returns-in-Err-Excuse-clause-stop : goal.returns-in-Err-Excuse-clause-stop
 returns-in-Err-Excuse-clause-stop c =

@@ -1,0 +1,3 @@
+pub mod LiftedForms
+pub mod LineHalts
+pub mod NodeFacts

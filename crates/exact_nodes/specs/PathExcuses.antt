@@ -1,0 +1,140 @@
+-- Why the nodes of a path are split by single columns.
+use Rattle.std.specs.Prelude.{◌≡◌, ◌⊎◌, ◌<◌, ◌^◌, ℤ, pos, ◌<ℤ◌, List, [], ◌∷◌, ◌++◌, length, false, Option, Some, None, FitsSigned}
+use Rattle.exact_math.specs.Rational.{ℚ, whole}
+use Rattle.exact_math.specs.RationalRing.{rationals}
+use Rattle.exact_math.specs.Ring.{integers}
+use Rattle.exact_vectors.specs.Vectors.{negate, zeros}
+use Rattle.whole_rows.specs.WholeRows.{WholeRows, span}
+use Rattle.farkas_rows.specs.declared.fracs.FracUse.{FracUse}
+use Rattle.farkas_rows.specs.declared.line.Line.{Line}
+use Rattle.farkas_rows.specs.declared.path.Slice.{Slice}
+use Rattle.farkas_rows.specs.Inequalities.{Inequality, above, below}
+use Rattle.farkas_rows.specs.LeastLine.{IsLeastLine}
+use Rattle.farkas_rows.specs.Refutes.{line_weight}
+use Rattle.proof_tree.specs.Moves.{IsNoHigher}
+use Rattle.spaces.specs.Maps.{pulled_form}
+use Rattle.lp_dict.specs.Systems.{wholes}
+use Rattle.unimodular_pair.specs.Gathering.{IsGatheredPair, StopsAfter}
+use Rattle.unimodular_pair.specs.Pairs.{Matrices}
+use Rattle.reformulate.specs.Charts.{chart_of}
+use Rattle.reformulate.specs.Excuses.{ExcusedOn, ValuesStay}
+use Rattle.reformulate.specs.Framing.{rest_of}
+use Rattle.reformulate.specs.Gaps.{IsGap}
+use Rattle.reformulate.specs.Slices.{SliceLeaves}
+use Rattle.reformulate.specs.Substitutions.{Substitution}
+use Rattle.reformulate.specs.declared.equality.Equality.{Equality}
+use Rattle.reformulate.specs.declared.gap.Gap.{Gap}
+use Rattle.reformulate.specs.declared.outcome.FrameExcuse.{FrameExcuse}
+use Rattle.reformulate.specs.declared.outcome.FrameExcuse.TheVariants as frame_excuses
+use Rattle.presolve_map.specs.LiftedLines.{IsLiftedLine}
+use Rattle.presolve_map.specs.ReducedRows.{ReducedRows, IsReduced}
+use Rattle.row_lifting.specs.Lifting.{none}
+use Rattle.farkas_lift.specs.NodeEqualities.{node_equalities, work_form, work_slice}
+use Rattle.farkas_lift.specs.NodeLifting.{node_places, uses_of}
+use Rattle.farkas_lift.specs.NodeSides.{node_sides}
+use Rattle.node_lines.specs.NodeLines.{end_number}
+use Rattle.node_regions.specs.NodeFrames.{IsKeptForm, IsNodeFrame}
+use Rattle.exact_nodes.specs.NodeExcuses.{IsExcusedBy}
+use Rattle.exact_nodes.specs.ThinMoves.{IsGapForm}
+use Rattle.exact_nodes.specs.declared.excuse.Excuse.{Excuse}
+use Rattle.exact_nodes.specs.declared.excuse.Excuse.TheVariants.{Frame, HeavyForm, HeavyLine}
+use mir.Syntax.{w128}
+
+-- ---- frames
+
+-- the excuse holds of the equalities of the root
+pub record IsRootExcuse (rows : WholeRows) (path : List Slice) (excuse : FrameExcuse) : Type 0 where
+  pub root : path ≡ []
+  pub work : ReducedRows
+  pub presolved : IsReduced rows work
+  pub excused : ExcusedOn (length work.rows.box) (node_equalities work []) excuse
+
+-- a value of the equality's form at x0 or at a vector of K, or what is left of its side, leaves `i128`
+abbrev pub EqualityLeaves : Substitution → Equality → Type 0
+EqualityLeaves frame equality = ¬ (ValuesStay equality.form (chart_of frame)) ⊎ ¬ (FitsSigned w128 (rest_of equality frame.to_work.base))
+
+-- the completion of the equality's form on the coordinates to a pair stops after these steps
+abbrev pub CompletionStops : Substitution → Equality → FrameExcuse → Type 0
+CompletionStops frame equality (frame_excuses.Reduce excuse) = ⊥
+CompletionStops frame equality (frame_excuses.Product steps) =
+    ((steps ≡ []) × EqualityLeaves frame equality) ⊎ StopsAfter (pulled_form frame.to_work equality.form) steps
+
+-- legal gathering of that form gives the pair, and the slice of the frame by it stops
+pub record PairStops (frame : Substitution) (equality : Equality) (excuse : FrameExcuse) : Type 0 where
+  pub pair : Matrices
+  pub gathered : IsGatheredPair (pulled_form frame.to_work equality.form) pair
+  pub leaves : SliceLeaves frame pair (rest_of equality frame.to_work.base) excuse
+
+-- The path is that of a node with a frame and one slice more, and the excuse holds of the slice of the frame.
+pub record IsSliceExcuse (rows : WholeRows) (path : List Slice) (excuse : FrameExcuse) : Type 0 where
+  pub before : List Slice
+  pub slice : Slice
+  pub ends : path ≡ before ++ slice ∷ []
+  pub frame : Substitution
+  pub of_node : IsNodeFrame rows before frame
+  pub stops : CompletionStops frame (work_slice of_node.work slice) excuse ⊎ PairStops frame (work_slice of_node.work slice) excuse
+
+-- ---- gaps
+
+-- the form of a gap of the root's equalities weighs above 2 to the power 96
+pub record IsHeavyGapForm (rows : WholeRows) (path : List Slice) (form : List ℤ) : Type 0 where
+  pub root : path ≡ []
+  pub lo : ℤ
+  pub gap : IsGapForm rows form lo
+  pub heavy : 2 ^ 96 < span form rows.box
+
+-- the equalities of the root so many times, as inequalities of the model
+abbrev pub times_uses : WholeRows → ReducedRows → List ℤ → List FracUse
+times_uses rows work times = uses_of (node_places rows work 0) (zeros rationals (length (node_sides work false))) (wholes times)
+
+-- the inequality at the end of a form at the root, so many times
+abbrev pub end_times : WholeRows → ℤ → FracUse
+end_times rows divisor = record { index = end_number rows []; times = whole divisor }
+
+-- Of the two ends of a gap's form, the lower one with minus the gap's times, and the upper one with its times.
+abbrev pub IsGapEnd : List ℤ → Gap → Inequality → List ℤ → Type 0
+IsGapEnd form gap end times =
+    ((end ≡ below form gap.lo) × (times ≡ negate integers gap.times))
+    ⊎ ((end ≡ above form gap.lo) × (times ≡ gap.times))
+
+-- The least whole line of a gap's times and divisor, for one of the ends, weighs above 2 to the power 126.
+pub record IsHeavyGapLine (rows : WholeRows) (path : List Slice) : Type 0 where
+  pub root : path ≡ []
+  pub work : ReducedRows
+  pub presolved : IsReduced rows work
+  pub gap : Gap
+  pub shown : IsGap (length work.rows.box) (node_equalities work []) gap
+  pub form : List ℤ
+  pub kept : IsKeptForm rows.box form
+  pub same_form : work_form work form ≡ gap.form
+  pub end : Inequality
+  pub times : List ℤ
+  pub is_end : IsGapEnd form gap end times
+  pub items : List FracUse
+  pub lifted : IsLiftedLine rows none (times_uses rows work times) items
+  pub heavy : (line : Line) → IsLeastLine None (items ++ end_times rows gap.divisor ∷ []) line → pos (2 ^ 126) <ℤ line_weight rows [] (Some end) line
+
+-- ---- all of them
+
+-- the excuse holds of the node in the coordinates of some frame of it
+pub record IsFramedExcuse (rows : WholeRows) (path : List Slice) (best : Option ℤ) (excuse : Excuse) : Type 0 where
+  pub frame : Substitution
+  pub of_node : IsNodeFrame rows path frame
+  pub excused : IsExcusedBy rows path best frame of_node.work excuse
+
+-- The excuse holds of the node at the end of the path, below the best value.
+pub data IsExcused (rows : WholeRows) (path : List Slice) (best : Option ℤ) (excuse : Excuse) : Type 0 where
+  framed : IsFramedExcuse rows path best excuse → IsExcused rows path best excuse
+  root : (stop : FrameExcuse) → excuse ≡ Frame stop → IsRootExcuse rows path stop → IsExcused rows path best excuse
+  slice : (stop : FrameExcuse) → excuse ≡ Frame stop → IsSliceExcuse rows path stop → IsExcused rows path best excuse
+  gap_form : (form : List ℤ) → excuse ≡ HeavyForm form → IsHeavyGapForm rows path form → IsExcused rows path best excuse
+  gap_line : excuse ≡ HeavyLine (record { pivots = [] }) → IsHeavyGapLine rows path → IsExcused rows path best excuse
+
+-- The excuse holds of that node or of one above it, under no value, or under one that is not lower than the best one.
+pub record IsExcusedAbove (rows : WholeRows) (path : List Slice) (best : Option ℤ) (excuse : Excuse) : Type 0 where
+  pub node : List Slice
+  pub rest : List Slice
+  pub joined : path ≡ node ++ rest
+  pub under : Option ℤ
+  pub not_lower : IsNoHigher best under
+  pub excused : IsExcused rows node under excuse
