@@ -1,0 +1,8 @@
+//! The split of a root whose equalities have no integer solution, without a slice.
+#![tactic(auto)]
+
+mod moves;
+mod outcome;
+
+pub use moves::gap_move;
+pub use outcome::GapMove;
