@@ -1,5 +1,5 @@
 //! Multipliers of the equalities of a root, as multipliers of the model's inequalities.
-ghost use Rattle.std.specs.Prelude.{◌≡◌, pos, IfOk};
+ghost use Rattle.std.specs.Prelude.{◌≡◌, pos, IfOk, OnOk};
 ghost use Rattle.std.specs.List.{All};
 ghost use Rattle.std.specs.List.Sorted.{IsStrictlyIncreasing};
 ghost use Rattle.exact_math.specs.Rational.{whole, ◌<ℚ◌};
@@ -30,7 +30,7 @@ pub fn lift_equalities(
     ensures numbers { IfOk result (All (λ item. IsWorkNumber model.now item.index)) }
     ensures rising { IfOk result (λ items. IsStrictlyIncreasing (numbers_of items)) }
     ensures positive { IfOk result (All (λ item. whole (pos 0) <ℚ item.times)) }
-    ensures limits { IsWithinLimits model.now }
+    ensures limits { OnOk result (IsWithinLimits model.now) }
 {
     let sides = node_sides(alloc, rows, false)?;
     let weights = vec![in alloc; Frac::whole(0); sides.len()]?;
