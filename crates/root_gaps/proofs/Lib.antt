@@ -1,0 +1,4 @@
+pub mod CornerLaws
+pub mod CornerLines
+pub mod RootTotals
+pub mod TimesLaws

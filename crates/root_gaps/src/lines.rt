@@ -1,5 +1,5 @@
 //! The lines that refute the ends of a gap's form.
-ghost use Rattle.std.specs.Prelude.{◌≡◌, ◌<◌, ◌≤◌, ◌^◌, ◌<ℤ◌, ℤ, pos, [], length, All, IsErrOf, IfOk, IfErr, slice_index_or, None};
+ghost use Rattle.std.specs.Prelude.{◌≡◌, ◌<◌, ◌≤◌, ◌^◌, ◌<ℤ◌, ℤ, pos, [], length, All, IsErrOf, IfErr, IfOk, OnErr, OnOk, ◌++◌, ◌∷◌};
 ghost use Rattle.std.specs.Option.{IsSomeAnd};
 ghost use Rattle.exact_math.specs.Rational.{whole};
 ghost use Rattle.frac128.specs.Range.{IsNarrow};
@@ -18,8 +18,30 @@ use farkas_rows::{End, FracUse, Line, Path};
 use frac128::Frac;
 use node_lines::{LineHalt, line_of};
 use presolve_map::{WorkRows, WorkTimes, lift_line};
+use sequence::NoMemory;
 use std::alloc::Global;
 use whole_rows::DenseRows;
+
+/// A whole number as a fraction; `Wide` where it is -2 to the power 127.
+fn fraction(number: i128) -> Result<Frac, LineHalt>
+    ensures value { IfOk result (λ fraction. fraction ≡ whole number) }
+    ensures narrow { OnOk result (IsNarrow number) }
+    ensures wide { OnErr result (¬ (IsNarrow number)) }
+    ensures halt { IfErr result (λ halt. halt ≡ halts.Wide) }
+{
+    if number == i128::MIN {
+        return Err(LineHalt::Wide);
+    }
+    Ok(Frac::whole(number))
+}
+
+/// Puts a fraction at the end.
+fn push(fractions: &mut Vec<Frac>, fraction: Frac) -> Result<(), NoMemory>
+    ensures { OnOk result (fractions.new.items ≡ fractions.old.items ++ fraction ∷ []) }
+{
+    fractions.push(fraction)?;
+    Ok(())
+}
 
 /// Whole numbers as fractions. `Wide` comes exactly where one of them is -2 to the power 127.
 pub(crate) fn fractions_of(alloc: Global, numbers: &[i128]) -> Result<Vec<Frac>, LineHalt>
@@ -27,13 +49,9 @@ pub(crate) fn fractions_of(alloc: Global, numbers: &[i128]) -> Result<Vec<Frac>,
     ensures wide { IsErrOf result halts.Wide → ¬ (All IsNarrow numbers.now) }
     ensures never_heavy { IsErrOf result halts.Heavy → ⊥ }
 {
-    let mut fractions = Vec::with_capacity(alloc, numbers.len())?;
-    for j in 0..numbers.len() {
-        let number = numbers[j];
-        if number == i128::MIN {
-            return Err(LineHalt::Wide);
-        }
-        fractions.push(Frac::whole(number))?;
+    let mut fractions = Vec::new(alloc);
+    for number in numbers {
+        push(&mut fractions, fraction(*number)?)?;
     }
     Ok(fractions)
 }
