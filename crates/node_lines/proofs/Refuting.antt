@@ -68,7 +68,7 @@ module _ {A : Type 0} (r : Ring A) where
       turned : (k a : A) → r.mul (r.neg k) a ≡ r.neg (r.mul k a)
       turned k a = ring r (k ∷ a ∷ []) (search reads depth 30) (search reads depth 30) refl
 
-  combination-negate : (n : ℕ) (y : List A) (rows : List (List A)) → combination r n (negate r y) rows ≡ negate r (combination r n y rows)
+  pub combination-negate : (n : ℕ) (y : List A) (rows : List (List A)) → combination r n (negate r y) rows ≡ negate r (combination r n y rows)
   combination-negate n [] rows = negate-zeros n
   combination-negate n (k ∷ y) [] = negate-zeros n
   combination-negate n (k ∷ y) (row ∷ rows) = ap₂ (add r) (scale-negate k row) (combination-negate n y rows) ∙ negate-add (scale r k row) (combination r n y rows)

@@ -1,5 +1,6 @@
 pub mod CornerLaws
 pub mod CornerLines
+pub mod EndLaws
 pub mod FormLaws
 pub mod HaltLaws
 pub mod RootTotals
