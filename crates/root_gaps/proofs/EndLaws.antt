@@ -1,6 +1,7 @@
 -- The equalities the gap's times, or minus them, refute an end of the gap's form.
 use Rattle.std.proofs.Common.{◌≡◌, ◌≢◌, ◌⊎◌, inl, inr, ℕ, ◌+◌, ◌*◌, ◌^◌, ◌<◌, ◌≤◌, nat_abs, ℤ, pos, neg_ℤ, ◌+ℤ◌, ◌-ℤ◌, ◌*ℤ◌, ◌≤ℤ◌, ◌<ℤ◌, List, [], ◌∷◌, length, get_or, refl, sym, ap, ap₂, subst, ◌∙◌, arith, All, ⊎_elim, Result, Ok, Err}
 use Rattle.std.specs.Prelude.{Option, Some, IfErr, IsErrOf}
+use Rattle.std.specs.Result.{IsErrAnd}
 use Rattle.exact_math.specs.Ring.{integers}
 use Rattle.exact_math.specs.IntegerRing.{linear, mul_add, mul_neg}
 use Rattle.exact_math.specs.IntegerOrder.{le_or_lt, mul_le}
@@ -193,3 +194,13 @@ upper-past rows work gap form is e = record {
   where
     far : (lo : ℤ) → lo ≡ pos (2 ^ 97) → nat_abs (neg_ℤ lo) ≤ 2 ^ 98
     far lo e = omega (linear, e)
+
+-- an error that is handed on
+pub halts-handed : {A B : Type 0} (rows : WholeRows) (found : Result A LineHalt) (handed : Result B LineHalt) (halt : LineHalt) → found ≡ Err halt → IsErrAnd handed (λ e. e ≡ halt) → (IsErrOf found Wide → IsHeavyGapLine rows []) → (IsErrOf found Heavy → IsHeavyGapLine rows []) → IfErr handed (HaltsGap rows)
+halts-handed rows found (Ok line) halt was same wide heavy = tt
+halts-handed rows found (Err given) halt was same wide heavy = each given (was ∙ ap Err (sym same))
+  where
+    each : (given : LineHalt) → found ≡ Err given → HaltsGap rows given
+    each Wide e = inr (wide e)
+    each Heavy e = inr (heavy e)
+    each NoMemory e = inl refl

@@ -1,17 +1,22 @@
-use Rattle.std.proofs.Common.{rules, ◌≡◌, pos, neg_ℤ, ℤ, List, FitsSigned, of_z, sym, ap, subst, ◌∙◌}
+use Rattle.std.proofs.Common.{rules, ◌≡◌, ◌^◌, ℕ, to_z, pos, neg_ℤ, ℤ, List, FitsSigned, of_z, sym, ap, subst, ◌∙◌}
 use Rattle.std.specs.Int.{w128}
 use Rattle.std.proofs.lemmas.Int.{to_z-of_z}
+use Rattle.exact_math.specs.Ring.{integers}
 use Rattle.exact_math.specs.Rational.{ℚ}
 use Rattle.exact_math.specs.RationalRing.{rationals}
 use Rattle.exact_vectors.specs.Vectors.{negate}
 use Rattle.lp_dict.specs.Systems.{wholes}
 use Rattle.farkas_rows.specs.Inequalities.{above}
-use Rattle.root_gaps.specs.GapEnds.{IsRefutedBy}
-use Rattle.root_gaps.proofs.EndLaws.{halts-gap, upper-heavy, upper-leaves, upper-refuted}
+use Rattle.root_gaps.specs.GapEnds.{IsPastBox, IsRefutedBy}
+use Rattle.root_gaps.proofs.EndLaws.{halts-gap, upper-heavy, upper-leaves, upper-past, upper-refuted}
 use Rattle.root_gaps.proofs.ends.upper_line.Goals as goal
 
 pub box_line-requires-clause-past : goal.box_line-requires-clause-past
-box_line-requires-clause-past c = ?
+box_line-requires-clause-past c =
+    let fits : FitsSigned w128 c.args.gap.now.lo = search rules in
+    let last : c.args.gap.now.lo ≡ pos (2 ^ 97) = sym (to_z-of_z w128 c.args.gap.now.lo fits) ∙ ap (λ (n : ℕ). to_z w128 n) c.if-gap-eq-FARTHEST.true in
+    let past : IsPastBox c.args.rows.now (above c.args.form.now c.args.gap.now.lo) = upper-past c.args.rows.now c.args.work.now c.args.gap.now c.args.form.now c.requires.gap last in
+    (simp to_z-of_z past, ap (negate integers) (sym c.items.ensures))
 
 pub times_line-requires-clause-refuted : goal.times_line-requires-clause-refuted
 times_line-requires-clause-refuted c =
