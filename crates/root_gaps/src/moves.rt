@@ -1,11 +1,14 @@
 //! The move of a root whose equalities have a gap.
-ghost use Rattle.std.specs.Prelude.{ℤ, [], Option, IfOk, length};
+ghost use Rattle.std.specs.Prelude.{◌≡◌, ◌≢◌, ℤ, [], Option, IfOk, OnOk, length};
 ghost use Rattle.farkas_lift.specs.NodeEqualities.{node_equalities};
 ghost use Rattle.presolve_map.specs.Columns.{IsColumnMap};
 ghost use Rattle.presolve_map.specs.ReducedRows.{IsReduced};
 ghost use Rattle.presolve_map.specs.Roots.{IsClosedRoot};
 ghost use Rattle.reformulate.specs.Gaps.{IsGap};
+ghost use Rattle.node_lines.specs.declared.halt.LineHalt.TheVariants as halts;
+ghost use Rattle.exact_nodes.specs.declared.excuse.Excuse.TheVariants.{HeavyLine};
 ghost use Rattle.root_gaps.specs.GapMoves.{IsGapMove};
+ghost use Rattle.root_gaps.specs.declared.outcome.GapMove.TheVariants as moves;
 
 use crate::ends::end_lines;
 use crate::form::gap_form;
@@ -20,6 +23,18 @@ use sequence::NoMemory;
 use spaces::{Affine, Original, Work};
 use std::alloc::Global;
 use whole_rows::{DenseRows, span_of};
+
+/// The excuse of a gap that has no lines.
+fn no_lines(alloc: Global, halt: LineHalt) -> Result<GapMove, NoMemory>
+    ensures excuse { IfOk result (λ found. found ≡ moves.Excused (HeavyLine (record { pivots = [] }))) }
+    ensures too_large { OnOk result (halt ≢ halts.NoMemory) }
+{
+    if halt == LineHalt::NoMemory {
+        return Err(NoMemory);
+    }
+    let pivots = Pivots::new(alloc);
+    Ok(GapMove::Excused(Excuse::HeavyLine(LineBasis { pivots })))
+}
 
 /// The split of a root along the form of a gap of its equalities, which has no whole value there. The map is that of presolving,
 /// which did not close the root.
@@ -52,9 +67,6 @@ pub fn gap_move(
             above: lines.above,
             mark: Mark::Thin,
         })),
-        Err(LineHalt::NoMemory) => Err(NoMemory),
-        Err(LineHalt::Wide | LineHalt::Heavy) => Ok(GapMove::Excused(Excuse::HeavyLine(LineBasis {
-            pivots: Pivots::new(alloc),
-        }))),
+        Err(halt) => no_lines(alloc, halt),
     }
 }
