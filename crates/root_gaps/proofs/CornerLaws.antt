@@ -1,47 +1,28 @@
 -- An end past the box, with the bounds that take its left side away, refutes itself, and the line is light.
-use Rattle.std.proofs.Common.{◌≡◌, ◌≢◌, ◌⊎◌, inl, inr, ℕ, zero, suc, ◌+◌, ◌*◌, ◌^◌, ◌<◌, ◌≤◌, max, Bool, true, false, ℤ, pos, neg_ℤ, ◌+ℤ◌, ◌*ℤ◌, ◌≤ℤ◌, ◌<ℤ◌, nat_abs, List, [], ◌∷◌, ◌++◌, length, take, get_or, map, refl, sym, ap, ap₂, subst, ◌∙◌, arith, All, ⊎_elim}
-use Rattle.std.specs.Prelude.{Option, Some, None, IsSome, int_lt, if◌then◌else◌, option_to_list, unwrap_or}
-use Rattle.std.specs.Int.{◌∣◌}
-use Rattle.std.specs.List.{AllZip, sum_by}
-use Rattle.std.specs.List.Sorted.{IsStrictlyIncreasing}
+use Rattle.std.proofs.Common.{◌≡◌, ◌≢◌, ℕ, zero, suc, ◌+◌, ◌*◌, ◌<◌, ◌≤◌, true, false, ℤ, pos, neg_ℤ, ◌+ℤ◌, ◌*ℤ◌, ◌≤ℤ◌, ◌<ℤ◌, nat_abs, List, [], length, take, get_or, refl, sym, ap, ap₂, subst, ◌∙◌, arith, All}
+use Rattle.std.specs.Prelude.{Option, Some, None, int_lt, if◌then◌else◌, option_to_list}
 use Rattle.std.proofs.lemmas.Bool.{cond_both}
 use Rattle.std.proofs.lemmas.Int.{ints}
-use Rattle.std.proofs.lemmas.List.{map-append, append-nil, take_all}
-use Rattle.std.proofs.lemmas.List.Elements.{All-nil, All-cons, All-append, All-head, All-tail, All-map, All-weaker}
+use Rattle.std.proofs.lemmas.List.Elements.{All-nil, All-cons}
 use Rattle.exact_math.specs.Ring.{integers}
 use Rattle.exact_math.specs.IntegerRing.{linear, neg_mul, mul_add}
-use Rattle.exact_math.specs.IntegerOrder.{le_trans, mul_le}
-use Rattle.exact_math.specs.Rational.{ℚ, whole, neg_ℚ, ◌+ℚ◌, ◌*ℚ◌, ◌<ℚ◌}
+use Rattle.exact_math.specs.IntegerOrder.{mul_le}
+use Rattle.exact_math.specs.Rational.{ℚ, whole, neg_ℚ, ◌+ℚ◌, ◌*ℚ◌}
 use Rattle.exact_math.specs.RationalRing.{rationals, whole_add, whole_mul}
 use Rattle.exact_math.specs.RingLaws as Laws
-use Rattle.exact_vectors.specs.Vectors.{dot}
-use Rattle.whole_rows.specs.declared.bounds.Bounds.{Bounds}
-use Rattle.whole_rows.specs.WholeRows.{WholeRows, bounds_at, reach, span, IsWithinLimits}
+use Rattle.whole_rows.specs.WholeRows.{WholeRows, bounds_at, reach, span}
 use Rattle.whole_rows.specs.WeightLaws.{span-take_more}
 use Rattle.row_lifting.specs.Lifting.{none}
 use Rattle.farkas_rows.specs.declared.fracs.FracUse.{FracUse}
-use Rattle.farkas_rows.specs.declared.line.Line.{Line}
-use Rattle.farkas_rows.specs.declared.line.Use.{Use}
-use Rattle.farkas_rows.specs.declared.path.Slice.{Slice}
-use Rattle.farkas_rows.specs.Inequalities.{Inequality, at_most, at_least, unit, inequality_at}
-use Rattle.farkas_rows.specs.LeastLine.{IsLeastLine, fractions}
-use Rattle.farkas_rows.specs.Refutes.{inequality_weight, line_weight, multipliers}
+use Rattle.farkas_rows.specs.Inequalities.{Inequality, unit}
 use Rattle.farkas_rows.specs.Sides.{factor_of}
 use Rattle.farkas_rows.proofs.LeastLemmas.{whole_num}
-use Rattle.presolve_map.specs.LiftedLines.{total, named, bound_of, factor_in, limit_in, lower_bound, numbers_of, upper_bound}
+use Rattle.presolve_map.specs.LiftedLines.{total, bound_of, factor_in, lower_bound, upper_bound}
 use Rattle.presolve_map.proofs.LineLaws.{named-lower, named-upper, negate-at, same_or_not, unit_other, whole_neg}
-use Rattle.plain_slices.proofs.ItemLaws.{sizes_of_negated, sizes_of_unit}
-use Rattle.plain_slices.proofs.SideLaws.{weight_small}
 use Rattle.plain_slices.proofs.UnitLaws.{unit-same}
-use Rattle.farkas_lift.specs.Joined.{joined}
 use Rattle.farkas_lift.proofs.JoinedLaws.{joined-All}
 use Rattle.farkas_lift.proofs.UseLaws.{total-append}
-use Rattle.node_lines.specs.Combinations.{AreOfNode, IsRefutation}
-use Rattle.node_lines.specs.NodeLines.{end_number}
-use Rattle.node_lines.proofs.FractionLaws.{line-share}
-use Rattle.node_lines.proofs.NodeNumbers.{named-there, rising-last}
-use Rattle.exact_nodes.specs.PathExcuses.{end_times}
-use Rattle.root_gaps.specs.GapEnds.{bounds_against, IsPastBox}
+use Rattle.root_gaps.specs.GapEnds.{bounds_against}
 
 -- ---- the bound of a column
 
@@ -169,11 +150,12 @@ module _ (rows : WholeRows) (value : ℕ → ℤ) (c : ℕ) where
       let rest = bounds-bounded form m (omega arith) dense each in
       let both = each m (omega arith) in
       let here = item-bounded m (get_or form m (pos 0)) both.0 both.1 in
-      let f : ℤ = get_or form m (pos 0) in
-      (rest.0 +ℤ here.0,
+      let f : ℤ = get_or form m (pos 0) in (
+        rest.0 +ℤ here.0,
         total-append value_in (bounds_against rows form m) (option_to_list (bound_of rows m (whole (get_or form m (pos 0))))) ∙ ap₂ (λ a b. a +ℚ b) rest.1 here.1 ∙ sym (whole_add rest.0 here.0),
         together c (span (take m form) rows.box) (nat_abs (get_or form m (pos 0)) * reach (bounds_at rows m)) (span (take (suc m) form) rows.box) rest.0 here.0 rest.2 here.2
-        (ap (λ (k : ℕ). span (take k form) rows.box) (next m) ∙ span-take_more m form rows.box (pos 0) (record { low = pos 0; high = pos 0 }) (omega arith) (omega arith)))
+            (ap (λ (k : ℕ). span (take k form) rows.box) (next m) ∙ span-take_more m form rows.box (pos 0) (record { low = pos 0; high = pos 0 }) (omega arith) (omega arith)),
+      )
     where
       next : (m : ℕ) → suc m ≡ m + 1
       next m = omega arith

@@ -1,39 +1,35 @@
 -- The line of an end past the box and of the bounds that take its left side away: it refutes the end, and is light.
 use Rattle.std.proofs.Common.{◌≡◌, ℕ, zero, suc, ◌+◌, ◌*◌, ◌^◌, ◌<◌, ◌≤◌, max, ℤ, pos, neg_ℤ, ◌+ℤ◌, ◌*ℤ◌, ◌≤ℤ◌, ◌<ℤ◌, nat_abs, List, [], ◌∷◌, ◌++◌, length, take, get_or, map, refl, sym, ap, ap₂, subst, ◌∙◌, arith, All}
-use Rattle.std.specs.Prelude.{Option, Some, None, IsSome, option_to_list}
+use Rattle.std.specs.Prelude.{Option, Some, None, option_to_list}
 use Rattle.std.specs.Int.{◌∣◌}
 use Rattle.std.specs.Option.{IsSomeAnd}
 use Rattle.std.specs.List.{AllZip, sum_by}
 use Rattle.std.specs.List.Sorted.{IsStrictlyIncreasing}
 use Rattle.std.proofs.lemmas.List.{map-append, append-nil, take_all}
 use Rattle.std.proofs.lemmas.List.Elements.{All-nil, All-cons, All-append, All-head, All-tail, All-map, All-weaker}
-use Rattle.exact_math.specs.Ring.{integers}
 use Rattle.exact_math.specs.GcdLaws.{gcd-one, one_from_dvd}
 use Rattle.exact_math.specs.IntegerRing.{linear}
 use Rattle.exact_math.specs.Rational.{ℚ, whole, ◌+ℚ◌, ◌*ℚ◌, ◌<ℚ◌}
-use Rattle.exact_math.specs.RationalRing.{rationals, whole_add, whole_mul}
+use Rattle.exact_math.specs.RationalRing.{rationals, whole_add}
 use Rattle.exact_math.specs.RingLaws as Laws
-use Rattle.exact_vectors.specs.Vectors.{dot}
 use Rattle.whole_rows.specs.declared.bounds.Bounds.{Bounds}
-use Rattle.whole_rows.specs.WholeRows.{WholeRows, bounds_at, reach, span, IsWithinLimits}
+use Rattle.whole_rows.specs.WholeRows.{WholeRows, bounds_at, reach, span}
 use Rattle.row_lifting.specs.Lifting.{none}
 use Rattle.farkas_rows.specs.declared.fracs.FracUse.{FracUse}
 use Rattle.farkas_rows.specs.declared.line.Line.{Line}
 use Rattle.farkas_rows.specs.declared.line.Use.{Use}
 use Rattle.farkas_rows.specs.declared.path.Slice.{Slice}
-use Rattle.farkas_rows.specs.Inequalities.{Inequality, at_most, at_least, unit, inequality_at}
-use Rattle.farkas_rows.specs.LeastLine.{IsLeastLine, fractions}
-use Rattle.farkas_rows.specs.Refutes.{inequality_weight, line_weight, multipliers}
+use Rattle.farkas_rows.specs.Inequalities.{Inequality, at_least, unit}
+use Rattle.farkas_rows.specs.LeastLine.{IsLeastLine}
+use Rattle.farkas_rows.specs.Refutes.{inequality_weight, line_weight}
 use Rattle.farkas_rows.specs.Sides.{factor_of}
 use Rattle.farkas_rows.proofs.LeastLemmas.{whole_num}
 use Rattle.presolve_map.specs.LiftedLines.{total, named, bound_of, factor_in, limit_in, lower_bound, numbers_of, upper_bound}
 use Rattle.presolve_map.proofs.LineLaws.{named-lower, named-upper}
 use Rattle.plain_slices.proofs.ItemLaws.{sizes_of_negated, sizes_of_unit}
 use Rattle.plain_slices.proofs.SideLaws.{weight_small}
-use Rattle.farkas_lift.specs.Joined.{joined}
 use Rattle.farkas_lift.proofs.UseLaws.{total-append}
 use Rattle.node_lines.specs.Combinations.{AreOfNode, IsRefutation}
-use Rattle.node_lines.specs.NodeLines.{end_number}
 use Rattle.node_lines.proofs.FractionLaws.{line-share}
 use Rattle.node_lines.proofs.NodeNumbers.{named-there, rising-last}
 use Rattle.exact_nodes.specs.PathExcuses.{end_times}
@@ -137,8 +133,10 @@ module _ (rows : WholeRows) (end : Inequality) (past : IsPastBox rows end) where
   weight-of_bounds =
       let n : ℕ = length rows.box in
       bounds-bounded rows weight_in 2 end.factors (length rows.box) (omega arith) past.dense
-      (λ k h. (subst (λ (i : Inequality). pos (inequality_weight i) ≤ℤ (pos 2 *ℤ pos (reach (bounds_at rows k)))) (sym (named-upper rows [] (Some end) k h)) (bound-weight (bounds_at rows k) (bounds_at rows k).high (unit (length rows.box) k) (high-size (bounds_at rows k)) (sizes_of_unit n k h)),
-        subst (λ (i : Inequality). pos (inequality_weight i) ≤ℤ (pos 2 *ℤ pos (reach (bounds_at rows k)))) (sym (named-lower rows [] (Some end) k h)) (bound-weight (bounds_at rows k) (neg_ℤ (bounds_at rows k).low) (at_least (unit (length rows.box) k) (bounds_at rows k).low).factors (low-size (bounds_at rows k)) (sizes_of_negated (unit n k) ∙ sizes_of_unit n k h))))
+      (λ k h. (
+        subst (λ (i : Inequality). pos (inequality_weight i) ≤ℤ (pos 2 *ℤ pos (reach (bounds_at rows k)))) (sym (named-upper rows [] (Some end) k h)) (bound-weight (bounds_at rows k) (bounds_at rows k).high (unit (length rows.box) k) (high-size (bounds_at rows k)) (sizes_of_unit n k h)),
+        subst (λ (i : Inequality). pos (inequality_weight i) ≤ℤ (pos 2 *ℤ pos (reach (bounds_at rows k)))) (sym (named-lower rows [] (Some end) k h)) (bound-weight (bounds_at rows k) (neg_ℤ (bounds_at rows k).low) (at_least (unit (length rows.box) k) (bounds_at rows k).low).factors (low-size (bounds_at rows k)) (sizes_of_negated (unit n k) ∙ sizes_of_unit n k h)),
+      ))
 
   -- ---- the least whole line
 

@@ -1,14 +1,13 @@
 -- The equalities the gap's times, or minus them, refute an end of the gap's form.
-use Rattle.std.proofs.Common.{◌≡◌, ◌≢◌, ◌⊎◌, inl, inr, ℕ, ◌+◌, ◌*◌, ◌^◌, ◌<◌, ◌≤◌, nat_abs, ℤ, pos, neg_ℤ, ◌+ℤ◌, ◌-ℤ◌, ◌*ℤ◌, ◌≤ℤ◌, ◌<ℤ◌, List, [], ◌∷◌, length, get_or, refl, sym, ap, ap₂, subst, ◌∙◌, arith, All, ⊎_elim, Result, Ok, Err}
-use Rattle.std.specs.Prelude.{Option, Some, IfErr, IsErrOf}
+use Rattle.std.proofs.Common.{◌≡◌, ◌≢◌, ◌⊎◌, inl, inr, ℕ, ◌+◌, ◌*◌, ◌^◌, ◌<◌, ◌≤◌, nat_abs, ℤ, pos, neg_ℤ, ◌+ℤ◌, ◌-ℤ◌, ◌*ℤ◌, ◌≤ℤ◌, ◌<ℤ◌, List, [], ◌∷◌, length, get_or, refl, sym, ap, ap₂, subst, ◌∙◌, All, ⊎_elim, Result, Ok, Err}
+use Rattle.std.specs.Prelude.{Some, IfErr, IsErrOf}
 use Rattle.std.specs.Result.{IsErrAnd}
 use Rattle.exact_math.specs.Ring.{integers}
-use Rattle.exact_math.specs.IntegerRing.{linear, mul_add, mul_neg}
+use Rattle.exact_math.specs.IntegerRing.{linear, mul_neg}
 use Rattle.exact_math.specs.IntegerOrder.{le_or_lt, mul_le}
-use Rattle.exact_math.specs.Rational.{ℚ, whole, neg_ℚ}
+use Rattle.exact_math.specs.Rational.{ℚ}
 use Rattle.exact_math.specs.RationalRing.{rationals}
-use Rattle.exact_math.specs.RingLaws as Laws
-use Rattle.exact_vectors.specs.Vectors.{dot, negate, scale}
+use Rattle.exact_vectors.specs.Vectors.{negate, scale}
 use Rattle.exact_vectors.specs.DotLaws as Dot
 use Rattle.exact_vectors.specs.MatrixLaws as Matrices
 use Rattle.frac128.specs.Range.{IsNarrow}
@@ -17,13 +16,12 @@ use Rattle.whole_rows.specs.declared.bounds.Bounds.{Bounds}
 use Rattle.whole_rows.specs.WholeRows.{WholeRows, reach, span}
 use Rattle.lp_dict.specs.Systems.{wholes}
 use Rattle.row_lifting.specs.Lifting.{none}
-use Rattle.farkas_rows.specs.Inequalities.{Inequality, above, below}
+use Rattle.farkas_rows.specs.Inequalities.{above, below}
 use Rattle.farkas_rows.specs.NodeLaws.{length-negate}
-use Rattle.farkas_rows.specs.declared.line.Line.{Line}
 use Rattle.reformulate.specs.Gaps.{forms_of, sides_of, IsGap, IsNearest, SumUp}
 use Rattle.reformulate.specs.declared.equality.Equality.{Equality}
 use Rattle.reformulate.specs.declared.gap.Gap.{Gap}
-use Rattle.presolve_map.specs.LiftedLines.{IsOverKept, LineStays}
+use Rattle.presolve_map.specs.LiftedLines.{LineStays}
 use Rattle.presolve_map.specs.ReducedRows.{ReducedRows}
 use Rattle.presolve_map.proofs.LineLaws.{negate-at, whole_neg}
 use Rattle.farkas_lift.specs.NodeEqualities.{node_equalities, work_form}
@@ -138,34 +136,82 @@ module _ (rows : WholeRows) (work : ReducedRows) (gap : Gap) (form : List ℤ) (
 
   pub lower-heavy : IsHeavyWith rows work gap.divisor (negate rationals (wholes gap.times)) (Some (below form gap.lo)) → IsHeavyGapLine rows []
   lower-heavy heavy = record {
-    root = refl; work = work; presolved = is.presolved; gap = gap; shown = is.shown; form = form; kept = is.kept; same_form = is.same;
-    end = below form gap.lo; times = negate integers gap.times; is_end = inl (refl, refl);
+    root = refl;
+    work = work;
+    presolved = is.presolved;
+    gap = gap;
+    shown = is.shown;
+    form = form;
+    kept = is.kept;
+    same_form = is.same;
+    end = below form gap.lo;
+    times = negate integers gap.times;
+    is_end = inl (refl, refl);
     too_large = inr (subst (λ (l : List ℚ). IsHeavyWith rows work gap.divisor l (Some (below form gap.lo))) (negate-wholes gap.times) heavy);
   }
 
   pub lower-leaves : (LineStays rows none (root_uses rows work (negate rationals (wholes gap.times))) → ⊥) → IsHeavyGapLine rows []
   lower-leaves leaves = record {
-    root = refl; work = work; presolved = is.presolved; gap = gap; shown = is.shown; form = form; kept = is.kept; same_form = is.same;
-    end = below form gap.lo; times = negate integers gap.times; is_end = inl (refl, refl);
+    root = refl;
+    work = work;
+    presolved = is.presolved;
+    gap = gap;
+    shown = is.shown;
+    form = form;
+    kept = is.kept;
+    same_form = is.same;
+    end = below form gap.lo;
+    times = negate integers gap.times;
+    is_end = inl (refl, refl);
     too_large = inl (inr (λ stays. leaves (subst (λ (l : List ℚ). LineStays rows none (root_uses rows work l)) (sym (negate-wholes gap.times)) stays)));
   }
 
   pub upper-heavy : IsHeavyWith rows work gap.divisor (wholes gap.times) (Some (above form gap.lo)) → IsHeavyGapLine rows []
   upper-heavy heavy = record {
-    root = refl; work = work; presolved = is.presolved; gap = gap; shown = is.shown; form = form; kept = is.kept; same_form = is.same;
-    end = above form gap.lo; times = gap.times; is_end = inr (refl, refl); too_large = inr heavy;
+    root = refl;
+    work = work;
+    presolved = is.presolved;
+    gap = gap;
+    shown = is.shown;
+    form = form;
+    kept = is.kept;
+    same_form = is.same;
+    end = above form gap.lo;
+    times = gap.times;
+    is_end = inr (refl, refl);
+    too_large = inr heavy;
   }
 
   pub upper-leaves : (LineStays rows none (root_uses rows work (wholes gap.times)) → ⊥) → IsHeavyGapLine rows []
   upper-leaves leaves = record {
-    root = refl; work = work; presolved = is.presolved; gap = gap; shown = is.shown; form = form; kept = is.kept; same_form = is.same;
-    end = above form gap.lo; times = gap.times; is_end = inr (refl, refl); too_large = inl (inr leaves);
+    root = refl;
+    work = work;
+    presolved = is.presolved;
+    gap = gap;
+    shown = is.shown;
+    form = form;
+    kept = is.kept;
+    same_form = is.same;
+    end = above form gap.lo;
+    times = gap.times;
+    is_end = inr (refl, refl);
+    too_large = inl (inr leaves);
   }
 
   pub times-leave : (All IsNarrow gap.times → ⊥) → IsHeavyGapLine rows []
   times-leave leave = record {
-    root = refl; work = work; presolved = is.presolved; gap = gap; shown = is.shown; form = form; kept = is.kept; same_form = is.same;
-    end = above form gap.lo; times = gap.times; is_end = inr (refl, refl); too_large = inl (inl leave);
+    root = refl;
+    work = work;
+    presolved = is.presolved;
+    gap = gap;
+    shown = is.shown;
+    form = form;
+    kept = is.kept;
+    same_form = is.same;
+    end = above form gap.lo;
+    times = gap.times;
+    is_end = inr (refl, refl);
+    too_large = inl (inl leave);
   }
 
 -- ---- errors

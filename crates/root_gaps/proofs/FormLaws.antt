@@ -1,6 +1,6 @@
 -- The form of a gap is not all 0 where presolving left the root open.
-use Rattle.std.proofs.Common.{◌≡◌, ◌≢◌, ◌⊎◌, inl, inr, ℕ, zero, suc, ◌+◌, ◌<◌, ◌≤◌, Bool, true, false, not, ℤ, pos, negsuc, neg_ℤ, ◌+ℤ◌, ◌-ℤ◌, ◌*ℤ◌, ◌≤ℤ◌, ◌<ℤ◌, List, [], ◌∷◌, ◌++◌, length, get_or, map, refl, sym, ap, ap₂, subst, ◌∙◌, arith, All, ⊎_elim}
-use Rattle.std.specs.Prelude.{Option, Some, None, Any, IsTrue, int_lt, option_map, ◌||◌, if◌then◌else◌}
+use Rattle.std.proofs.Common.{◌≡◌, ◌≢◌, ◌⊎◌, inl, inr, ℕ, zero, suc, ◌<◌, Bool, true, false, not, ℤ, pos, negsuc, ◌+ℤ◌, ◌*ℤ◌, ◌<ℤ◌, List, [], ◌∷◌, ◌++◌, length, get_or, refl, sym, ap, ap₂, subst, ◌∙◌, arith, All, ⊎_elim}
+use Rattle.std.specs.Prelude.{Option, Some, None, int_lt, ◌||◌, if◌then◌else◌}
 use Rattle.std.specs.Option.{IsSomeAnd}
 use Rattle.std.specs.Ordering.{int_eq}
 use Rattle.std.proofs.lemmas.Bool.{cond_both}
@@ -10,24 +10,24 @@ use Rattle.std.proofs.lemmas.Int.{ints}
 use Rattle.std.proofs.lemmas.List.{get_or-map}
 use Rattle.exact_math.specs.Ring.{integers}
 use Rattle.exact_math.specs.IntegerRing.{linear, mul_zero, zero_mul}
-use Rattle.exact_vectors.specs.Vectors.{dot, negate, scale}
+use Rattle.exact_vectors.specs.Vectors.{scale}
 use Rattle.exact_vectors.specs.DotLaws as Dot
 use Rattle.whole_rows.specs.declared.bounds.Bounds.{Bounds}
 use Rattle.whole_rows.specs.declared.ends.End.{End}
 use Rattle.whole_rows.specs.declared.ends.End.TheVariants.{Least, Greatest}
 use Rattle.whole_rows.specs.EndLaws.{greatest_sum, least_sum}
 use Rattle.whole_rows.specs.Ends.{sum_at, value_at}
-use Rattle.whole_rows.specs.WholeRows.{WholeRow, WholeRows, LiesIn, row_at, IsWithinLimits}
+use Rattle.whole_rows.specs.WholeRows.{WholeRow, WholeRows, row_at, IsWithinLimits}
 use Rattle.farkas_rows.specs.Inequalities.{at_least, at_most}
-use Rattle.reformulate.specs.Gaps.{forms_of, HasNonzero, IsGap, SumUp}
+use Rattle.reformulate.specs.Gaps.{HasNonzero, IsGap, SumUp}
 use Rattle.reformulate.specs.declared.equality.Equality.{Equality}
 use Rattle.reformulate.specs.declared.gap.Gap.{Gap}
 use Rattle.plain_slices.proofs.ShutLaws.{any-at}
 use Rattle.presolve_map.proofs.LineLaws.{same_or_not}
-use Rattle.plain_slices.specs.Shut.{CannotMeet, IsShutByRow, Shut}
+use Rattle.plain_slices.specs.Shut.{CannotMeet, IsShutByRow}
 use Rattle.presolve_map.specs.Selections.{select, positions}
-use Rattle.presolve_map.specs.Columns.{is_open, kept, open_flags, removed_part, removed_value}
-use Rattle.presolve_map.specs.ReducedRows.{can_violate, falls_below, moved_side, needed_flags, reduced_row, rises_above, ReducedRows, IsReduced}
+use Rattle.presolve_map.specs.Columns.{is_open, kept, open_flags, removed_part}
+use Rattle.presolve_map.specs.ReducedRows.{can_violate, falls_below, needed_flags, rises_above, ReducedRows, IsReduced}
 use Rattle.presolve_map.specs.Roots.{IsClosedRoot}
 use Rattle.farkas_lift.specs.Joined.{joined}
 use Rattle.farkas_lift.specs.NodeEqualities.{common_side, equality_with, node_equalities, row_equality, work_form}

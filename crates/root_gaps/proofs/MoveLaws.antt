@@ -1,5 +1,5 @@
 -- The move of a root whose equalities have a gap.
-use Rattle.std.proofs.Common.{◌≡◌, ◌≢◌, inl, inr, ℕ, ◌^◌, ◌<◌, ◌≤◌, ℤ, pos, negsuc, neg_ℤ, ◌+ℤ◌, ◌≤ℤ◌, ◌<ℤ◌, List, [], length, refl, sym, ap, subst, ◌∙◌, arith, All, ⊎_elim, Result, Ok, Err}
+use Rattle.std.proofs.Common.{◌≡◌, ◌≢◌, ◌^◌, ◌<◌, ◌≤◌, ℤ, pos, neg_ℤ, ◌+ℤ◌, ◌≤ℤ◌, ◌<ℤ◌, List, [], length, refl, sym, subst, All, ⊎_elim, Result, Ok, Err}
 use Rattle.std.specs.Prelude.{Option, Some, IfOk, OnOk}
 use Rattle.exact_math.specs.IntegerRing.{linear}
 use Rattle.exact_math.specs.IntegerOrder.{le_or_lt}
@@ -9,19 +9,16 @@ use Rattle.farkas_rows.specs.declared.line.Line.{Line}
 use Rattle.reformulate.specs.Gaps.{IsGap, IsNearest}
 use Rattle.reformulate.specs.declared.gap.Gap.{Gap}
 use Rattle.presolve_map.specs.ReducedRows.{ReducedRows, IsReduced}
-use Rattle.proof_tree.specs.Moves.{widest, SplitsUnder}
 use Rattle.proof_tree.specs.Trees.{IsOfSize}
-use Rattle.proof_tree.specs.declared.tree.Cut.{Cut}
 use Rattle.proof_tree.specs.declared.tree.Mark.TheVariants.{Thin}
 use Rattle.farkas_lift.specs.NodeEqualities.{node_equalities, work_form}
 use Rattle.node_regions.specs.NodeFrames.{IsKeptForm}
 use Rattle.node_lines.specs.declared.halt.LineHalt.{LineHalt}
 use Rattle.node_lines.specs.declared.halt.LineHalt.TheVariants.{NoMemory}
-use Rattle.exact_nodes.specs.PathExcuses.{IsExcused}
 use Rattle.exact_nodes.specs.PathExcuses.IsExcused.{gap_form, gap_line}
-use Rattle.exact_nodes.specs.ThinMoves.{IsGapForm, IsGapSplit}
+use Rattle.exact_nodes.specs.ThinMoves.{IsGapForm}
 use Rattle.exact_nodes.specs.declared.excuse.Excuse.TheVariants.{HeavyForm, HeavyLine}
-use Rattle.root_gaps.specs.GapEnds.{ClosesEnd, HaltsGap, IsFormOfGap}
+use Rattle.root_gaps.specs.GapEnds.{ClosesEnd, HaltsGap}
 use Rattle.root_gaps.specs.GapMoves.{IsGapMove}
 use Rattle.root_gaps.specs.declared.outcome.GapMove.{GapMove}
 use Rattle.root_gaps.specs.declared.outcome.GapMove.TheVariants.{Excused, Split}

@@ -1,14 +1,13 @@
 -- What the equalities of a root come to, so many times.
-use Rattle.std.proofs.Common.{◌≡◌, ℕ, zero, suc, ◌<◌, ◌≤◌, false, ℤ, pos, List, [], ◌∷◌, ◌++◌, length, get_or, map, refl, sym, ap, ap₂, subst, ◌∙◌, arith, All}
+use Rattle.std.proofs.Common.{◌≡◌, ℕ, zero, suc, ◌<◌, ◌≤◌, false, ℤ, pos, List, [], ◌∷◌, length, get_or, map, refl, sym, ap, ◌∙◌, arith, All}
 use Rattle.std.specs.Prelude.{Option, Some, None}
 use Rattle.std.proofs.lemmas.List.{length-map}
 use Rattle.std.proofs.lemmas.List.Elements.{All-nil, All-cons, All-append, All-map}
-use Rattle.exact_math.specs.Ring.{integers}
-use Rattle.exact_math.specs.Rational.{ℚ, whole, ◌+ℚ◌, ◌*ℚ◌}
+use Rattle.exact_math.specs.Rational.{ℚ, whole, ◌+ℚ◌}
 use Rattle.exact_math.specs.RationalRing.{rationals}
 use Rattle.exact_math.specs.RingLaws as Laws
 use Rattle.exact_vectors.specs.Vectors.{dot, zeros}
-use Rattle.exact_vectors.specs.Matrices.{HasWidth, column, combination}
+use Rattle.exact_vectors.specs.Matrices.{HasWidth}
 use Rattle.exact_vectors.specs.DotLaws as Dot
 use Rattle.exact_vectors.specs.MatrixLaws as Matrices
 use Rattle.whole_rows.specs.declared.bounds.Bounds.{Bounds}

@@ -1,9 +1,8 @@
 -- The equalities of a root so many times, with an end, refute that end.
-use Rattle.std.proofs.Common.{◌≡◌, ℕ, ◌+◌, ◌*◌, ◌<◌, Bool, true, false, ℤ, pos, ◌+ℤ◌, ◌*ℤ◌, ◌<ℤ◌, List, [], ◌∷◌, ◌++◌, length, get_or, map, refl, sym, ap, ap₂, subst, ◌∙◌, arith, All, ⊎_elim}
-use Rattle.std.specs.Prelude.{Option, Some, None, IfSome, IsSome, unwrap_or}
+use Rattle.std.proofs.Common.{◌≡◌, ℕ, ◌+◌, ◌*◌, ◌<◌, Bool, true, false, ℤ, pos, ◌+ℤ◌, ◌*ℤ◌, ◌<ℤ◌, List, [], ◌∷◌, ◌++◌, length, get_or, refl, sym, ap, ap₂, subst, ◌∙◌, arith, All, ⊎_elim}
+use Rattle.std.specs.Prelude.{Option, Some, None, IsSome, unwrap_or}
 use Rattle.std.specs.Option.{IsSomeAnd}
 use Rattle.std.specs.List.Sorted.{IsStrictlyIncreasing}
-use Rattle.std.proofs.lemmas.Int.{ints}
 use Rattle.std.proofs.lemmas.List.{map-append}
 use Rattle.std.proofs.lemmas.List.Elements.{All-nil, All-cons, All-append, All-map}
 use Rattle.exact_math.specs.IntegerRing.{linear}
@@ -16,32 +15,27 @@ use Rattle.whole_rows.specs.WholeRows.{WholeRows, bounds_at, IsWithinLimits}
 use Rattle.lp_dict.specs.Systems.{wholes}
 use Rattle.row_lifting.specs.Lifting.{none}
 use Rattle.farkas_rows.specs.declared.fracs.FracUse.{FracUse}
-use Rattle.farkas_rows.specs.declared.line.CutUse.{CutUse}
-use Rattle.farkas_rows.specs.declared.line.Line.{Line}
 use Rattle.farkas_rows.specs.declared.path.Slice.{Slice}
 use Rattle.farkas_rows.specs.Inequalities.{Inequality, inequality_at}
 use Rattle.farkas_rows.specs.NumberLaws.{number-end}
-use Rattle.farkas_rows.specs.Refutes.{nothing, Refutes}
+use Rattle.farkas_rows.specs.Refutes.{nothing}
 use Rattle.farkas_rows.specs.Sides.{factor_of}
 use Rattle.farkas_rows.proofs.LeastLemmas.{whole_num}
 use Rattle.presolve_map.specs.Columns.{is_open}
-use Rattle.presolve_map.specs.LiftedLines.{total, named, cost_in, factor_in, limit_in, reduced_limit_in, numbers_of, ComesToSame, IsLiftedLine, IsNodeOverKept, IsOverKept, IsRemoved, IsWorkNumber}
+use Rattle.presolve_map.specs.LiftedLines.{total, named, cost_in, factor_in, limit_in, numbers_of, ComesToSame, IsLiftedLine, IsNodeOverKept, IsOverKept, IsWorkNumber}
 use Rattle.presolve_map.specs.ReducedRows.{ReducedRows, IsReduced}
-use Rattle.farkas_lift.specs.NodeEqualities.{work_form}
 use Rattle.farkas_lift.specs.NodeLifting.{root_uses}
 use Rattle.farkas_lift.specs.NodeSides.{node_sides}
 use Rattle.farkas_lift.proofs.RootLaws.{zeros_nonneg}
 use Rattle.exact_vectors.specs.Vectors.{zeros}
-use Rattle.proof_tree.specs.Moves.{ClosesUnder}
 use Rattle.farkas_lift.proofs.JoinedLaws.{joined-at}
-use Rattle.farkas_lift.proofs.NodeValues as Node
 use Rattle.farkas_lift.proofs.UseLaws.{total-append}
 use Rattle.node_lines.specs.Combinations.{AreOfNode, IsRefutation}
 use Rattle.node_lines.specs.NodeLines.{end_number}
 use Rattle.node_lines.proofs.NodeNumbers.{are-of-node, rising-last}
 use Rattle.node_lines.proofs.NodeSums.{column-found}
 use Rattle.exact_nodes.specs.PathExcuses.{end_times}
-use Rattle.root_gaps.specs.GapEnds.{ClosesEnd, IsRefutedBy}
+use Rattle.root_gaps.specs.GapEnds.{IsRefutedBy}
 use Rattle.root_gaps.proofs.RootTotals.{root-factor, root-limit}
 
 -- ---- the end so many times
@@ -142,14 +136,3 @@ some-refuted rows work divisor (Some end) path times cut uses lifted all last li
     let comes : ComesToSame rows [] (Some end) none uses lifted = subst (λ (q : ℚ). ComesToSame rows [] (Some end) q uses lifted) is_cut (same [] (Some end) over) in
     subst (λ (p : List Slice). IsRefutation rows p (Some end) None all) (sym root)
     (subst (IsRefutation rows [] (Some end) None) (sym (is_all ∙ ap (λ (item : FracUse). lifted ++ item ∷ []) is_last)) (times-refuted rows work divisor end limits reduced times uses lifted refuted is_uses of_node comes))
-
--- a line without a cut closes its end under every best value
-pub closes-any : (rows : WholeRows) (path : List Slice) (end : Option Inequality) (line : Line) → path ≡ [] → ClosesUnder rows None path end line → ClosesEnd rows end line
-closes-any rows path end line root closes best = record {
-  refutes = subst (λ (p : List Slice). Refutes rows p end line) root closes.refutes;
-  cut = no_cut line.cut closes.cut;
-}
-  where
-    no_cut : (cut : Option CutUse) → IfSome cut (λ (cut : CutUse). None ≡ Some cut.value) → IfSome cut (λ (cut : CutUse). best ≡ Some cut.value)
-    no_cut None h = tt
-    no_cut (Some cut) h = absurd (cc)

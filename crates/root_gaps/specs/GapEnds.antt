@@ -1,5 +1,5 @@
 -- Ends of a gap's form, and why no point of the root lies there.
-use Rattle.std.specs.Prelude.{◌≡◌, ◌⊎◌, ℕ, ◌<◌, ◌^◌, ◌≤◌, ℤ, pos, ◌+ℤ◌, ◌*ℤ◌, ◌≤ℤ◌, ◌<ℤ◌, List, [], length, Option, option_to_list, slice_index_or, unsigned_abs}
+use Rattle.std.specs.Prelude.{◌≡◌, ◌⊎◌, ℕ, ◌<◌, ◌^◌, ◌≤◌, ℤ, pos, ◌+ℤ◌, ◌*ℤ◌, ◌<ℤ◌, List, [], length, Option, option_to_list, slice_index_or, unsigned_abs}
 use Rattle.exact_math.specs.Rational.{ℚ, whole}
 use Rattle.lp_dict.specs.Systems.{wholes}
 use Rattle.whole_rows.specs.WholeRows.{WholeRows, span}

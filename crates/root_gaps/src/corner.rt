@@ -60,7 +60,12 @@ fn bounds_against(
 {
     let mut items = Vec::new(alloc);
     for column in 0..form.len() {
-        push_bound(&mut items, rows, column, &factor_of(rows, form, turned, column))?;
+        push_bound(
+            &mut items,
+            rows,
+            column,
+            &factor_of(rows, form, turned, column),
+        )?;
     }
     Ok(OriginalTimes::from_vec(items))
 }

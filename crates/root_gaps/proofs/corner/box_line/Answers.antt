@@ -1,5 +1,4 @@
-use Rattle.std.proofs.Common.{◌≡◌, cond, pos, ℤ, List}
-use Rattle.std.proofs.lemmas.Int.{to_z-of_z}
+use Rattle.std.proofs.Common.{cond}
 use Rattle.exact_math.specs.Ring.{integers}
 use Rattle.exact_vectors.specs.Vectors.{negate}
 use Rattle.farkas_rows.specs.Ends.{inequality_of}

@@ -1,4 +1,4 @@
-use Rattle.std.proofs.Common.{rules, ◌≡◌, ◌^◌, ◌<◌, ◌≤◌, cond, true, pos, neg_ℤ, ℤ, List, nat_abs, get_or, length, FitsSigned, sym, ap, ◌∙◌, arith}
+use Rattle.std.proofs.Common.{rules, ◌^◌, ◌<◌, ◌≤◌, pos, ℤ, List, nat_abs, get_or, FitsSigned, sym, ap, ◌∙◌, arith}
 use Rattle.std.specs.Int.{w128}
 use Rattle.std.proofs.lemmas.Bool.{cond-true}
 use Rattle.std.proofs.lemmas.Int.{to_z-of_z}

@@ -1,8 +1,4 @@
-use Rattle.std.proofs.Common.{◌≡◌, refl, subst, sym, List, ℤ, All, ap, Result, Err}
-use Rattle.std.specs.Prelude.{IfErr}
-use Rattle.std.specs.Result.{IsErrAnd}
-use Rattle.frac128.specs.Range.{IsNarrow}
-use Rattle.node_lines.specs.declared.halt.LineHalt.{LineHalt}
+use Rattle.std.proofs.Common.{refl, Err}
 use Rattle.root_gaps.proofs.EndLaws.{halts-handed, times-leave}
 use Rattle.root_gaps.proofs.ends.end_lines.Goals as goal
 

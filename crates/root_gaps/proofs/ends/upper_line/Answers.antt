@@ -1,9 +1,8 @@
-use Rattle.std.proofs.Common.{rules, ◌≡◌, ◌^◌, ℕ, to_z, pos, neg_ℤ, ℤ, List, FitsSigned, of_z, sym, ap, subst, ◌∙◌}
+use Rattle.std.proofs.Common.{rules, ◌≡◌, ◌^◌, ℕ, to_z, pos, ℤ, List, FitsSigned, of_z, sym, ap, subst, ◌∙◌}
 use Rattle.std.specs.Int.{w128}
 use Rattle.std.proofs.lemmas.Int.{to_z-of_z}
 use Rattle.exact_math.specs.Ring.{integers}
 use Rattle.exact_math.specs.Rational.{ℚ}
-use Rattle.exact_math.specs.RationalRing.{rationals}
 use Rattle.exact_vectors.specs.Vectors.{negate}
 use Rattle.lp_dict.specs.Systems.{wholes}
 use Rattle.farkas_rows.specs.Inequalities.{above}

@@ -1,4 +1,4 @@
-use Rattle.std.proofs.Common.{ℤ, List, [], refl, ap, length, subst, ◌∙◌, sym}
+use Rattle.std.proofs.Common.{ℤ, List, refl, ap, length, subst, ◌∙◌, sym}
 use Rattle.whole_rows.specs.declared.bounds.Bounds.{Bounds}
 use Rattle.presolve_map.proofs.KeptLaws.{length-kept}
 use Rattle.farkas_lift.specs.NodeEqualities.{work_form}

@@ -1,4 +1,3 @@
-use Rattle.std.proofs.Common.{◌∙◌}
 use Rattle.std.proofs.lemmas.Int.{to_z-of_z}
 use Rattle.farkas_rows.specs.Ends.{inequality_of}
 use Rattle.root_gaps.proofs.TimesLaws.{some-refuted}
