@@ -5,7 +5,7 @@ use Rattle.exact_math.specs.RationalRing.{rationals}
 use Rattle.exact_vectors.specs.Vectors.{zeros}
 use Rattle.farkas_rows.specs.declared.fracs.FracUse.{FracUse}
 use Rattle.presolve_map.specs.LiftedLines.{numbers_of, IsWorkNumber}
-use Rattle.farkas_lift.specs.NodeLifting.{node_places, root_uses, uses_of}
+use Rattle.farkas_lift.specs.NodeLifting.{root_uses, uses_of}
 use Rattle.farkas_lift.specs.NodeSides.{node_sides}
 use Rattle.farkas_lift.specs.declared.place.Place.{Place}
 use Rattle.farkas_lift.proofs.NodePlaces.{numbers-rise, numbers-work, times-positive}
