@@ -1,0 +1,6 @@
+mod FrameCharts
+mod LightSums
+mod NodeForms
+mod PrimitiveForms
+mod ReachLaws
+mod SliceLaws
