@@ -4,3 +4,4 @@ mod NodeForms
 mod PrimitiveForms
 mod ReachLaws
 mod SliceLaws
+mod SlicedNodes

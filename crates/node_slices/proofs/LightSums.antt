@@ -1,8 +1,7 @@
 -- Sums of a light form at values within the reach of their columns, and at the lines of the map of presolving.
-use Rattle.std.proofs.Common.{◌≡◌, ◌⊎◌, ⊎_elim, ℕ, zero, suc, ◌+◌, ◌*◌, ◌^◌, ◌<◌, ◌≤◌, Bool, true, false, not, cond, ℤ, pos, nat_abs, ◌+ℤ◌, ◌*ℤ◌, List, [], ◌∷◌, length, get_or, refl, sym, ap, subst, ◌∙◌, arith, FitsSigned, All}
+use Rattle.std.proofs.Common.{⊎_elim, ℕ, suc, ◌+◌, ◌*◌, ◌^◌, ◌<◌, ◌≤◌, Bool, true, false, cond, ℤ, pos, nat_abs, ◌+ℤ◌, ◌*ℤ◌, List, [], ◌∷◌, length, get_or, sym, subst, arith, All}
 use Rattle.std.specs.Int.{w128}
 use Rattle.std.specs.List.{AllZip}
-use Rattle.std.specs.Ordering.{int_eq}
 use Rattle.std.proofs.Math.Nat.{mul-le-mul_left}
 use Rattle.std.proofs.Math.ListN.{get_or-eq_default}
 use Rattle.std.proofs.lemmas.Bool.{cases_lt}
@@ -18,15 +17,14 @@ use Rattle.whole_rows.specs.WholeRows.{reach, span}
 use Rattle.whole_rows.specs.WeightLaws.{reach_pos}
 use Rattle.farkas_rows.specs.Inequalities.{unit}
 use Rattle.spaces.specs.Maps.{AffineMap, PullBackStays}
-use Rattle.spaces.specs.Tables.{rows_in}
 use Rattle.presolve_map.specs.Columns.{IsColumnMap, column_lines, is_open, kept_columns, open_flags, removed_value, removed_values}
 
 -- no value is larger in size than the reach of its column
-abbrev pub IsWithinReach : List Bounds → List ℤ → Type 0
+abbrev IsWithinReach : List Bounds → List ℤ → Type 0
 IsWithinReach box x = AllZip (λ (bounds : Bounds) value. nat_abs value ≤ reach bounds) box x
 
 -- the sums of the form at such values stay in range, where the form is light
-pub stays_by_reach : (s : ℤ) (form : List ℤ) (box : List Bounds) (x : List ℤ) → IsWithinReach box x → nat_abs s + span form box ≤ 2 ^ 96 → StaysInRange s form x
+stays_by_reach : (s : ℤ) (form : List ℤ) (box : List Bounds) (x : List ℤ) → IsWithinReach box x → nat_abs s + span form box ≤ 2 ^ 96 → StaysInRange s form x
 stays_by_reach s [] box x within light = tt
 stays_by_reach s (a ∷ form) box [] within light = tt
 stays_by_reach s (a ∷ form) [] (v ∷ x) within light = absurd within
@@ -77,6 +75,6 @@ lines_within (b ∷ box) width place j = by_flag (λ place. lines_within box wid
 -- The sums by which a light form is pulled back along the map of presolving stay in range.
 pub map_stays : (box : List Bounds) (placing : AffineMap) (form : List ℤ) → IsColumnMap box placing → span form box ≤ 2 ^ 96 → PullBackStays placing form
 map_stays box placing form is light = (
-      subst (StaysInRange (pos 0) form) (sym is.base) (stays_by_reach (pos 0) form box (removed_values box) (base_within box) (omega (arith, light))),
-      λ j lt. subst (λ (lines : List (List ℤ)). StaysInRange (pos 0) form (column integers lines j)) (sym is.lines) (stays_by_reach (pos 0) form box (column integers (column_lines (length (kept_columns box)) 0 (open_flags box)) j) (lines_within box (length (kept_columns box)) 0 j) (omega (arith, light))),
-    )
+  subst (StaysInRange (pos 0) form) (sym is.base) (stays_by_reach (pos 0) form box (removed_values box) (base_within box) (omega (arith, light))),
+  λ j lt. subst (λ (lines : List (List ℤ)). StaysInRange (pos 0) form (column integers lines j)) (sym is.lines) (stays_by_reach (pos 0) form box (column integers (column_lines (length (kept_columns box)) 0 (open_flags box)) j) (lines_within box (length (kept_columns box)) 0 j) (omega (arith, light))),
+)

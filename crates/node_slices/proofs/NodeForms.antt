@@ -1,5 +1,6 @@
 -- The form of a slice over the columns that presolving keeps, and on the coordinates of a frame of the node.
 use Rattle.std.proofs.Common.{◌≡◌, ℕ, ℤ, List, length, refl, sym, ap, subst, ◌∙◌}
+use Rattle.std.proofs.lemmas.List.{length-map}
 use Rattle.std.proofs.lemmas.Slice.Zip.{AllZip-long}
 use Rattle.exact_math.specs.Ring.{integers}
 use Rattle.exact_vectors.specs.MatrixLaws as Matrix
@@ -10,12 +11,11 @@ use Rattle.form_widths.specs.Widths.{IsPrimitive}
 use Rattle.spaces.specs.Maps.{AffineMap, pulled_form}
 use Rattle.spaces.specs.TableLaws.{HasWidth-rows_in}
 use Rattle.spaces.specs.Tables.{rows_in}
-use Rattle.unimodular_pair.specs.Gathering.{common_divisor}
 use Rattle.reformulate.specs.Charts.{chart_of}
 use Rattle.reformulate.specs.Frames.{IsReachedFrame}
 use Rattle.reformulate.specs.Substitutions.{IsSubstitution, Substitution, columns_of, dimension_of}
 use Rattle.reformulate.specs.declared.equality.Equality.{Equality}
-use Rattle.presolve_map.specs.Columns.{IsColumnMap, kept}
+use Rattle.presolve_map.specs.Columns.{IsColumnMap, removed_value}
 use Rattle.presolve_map.specs.ReducedRows.{IsReduced, ReducedRows}
 use Rattle.presolve_map.proofs.KeptLaws.{length-kept}
 use Rattle.farkas_lift.specs.NodeEqualities.{node_equalities, work_form}
@@ -23,7 +23,7 @@ use Rattle.node_regions.specs.NodeFrames.{IsKeptForm, IsNodeFrame}
 use Rattle.node_regions.specs.KeptFormLaws.{pulled-kept, work_form-kept}
 use Rattle.node_slices.specs.SliceNodes.{IsPrimitiveThere}
 use Rattle.node_slices.proofs.FrameCharts.{chart_of_frame}
-use Rattle.node_slices.proofs.PrimitiveForms.{lowest, primitive_here, some_factor}
+use Rattle.node_slices.proofs.PrimitiveForms.{primitive_here}
 
 -- ---- what presolving leaves is determined
 
@@ -35,7 +35,7 @@ reduced_rows box rows cost row_numbers column_numbers constant = record {
   cost_constant = constant;
 }
 
-pub reduced_unique : (rows : WholeRows) (a b : ReducedRows) → IsReduced rows a → IsReduced rows b → a ≡ b
+reduced_unique : (rows : WholeRows) (a b : ReducedRows) → IsReduced rows a → IsReduced rows b → a ≡ b
 unfolding reduced_rows
 reduced_unique rows a b h k =
     ap (λ (l : List Bounds). reduced_rows l a.rows.rows a.rows.cost a.row_numbers a.column_numbers a.cost_constant) (h.box ∙ sym k.box)
@@ -51,6 +51,11 @@ module _ (rows : WholeRows) (placing : AffineMap) (is_map : IsColumnMap rows.box
   dense : length form ≡ length rows.box
   dense = AllZip-long _ _ _ kept_form
 
+  -- it has an item for each line of the map
+  pub as_many : length form ≡ length placing.base
+  as_many = dense ∙ sym (ap (λ (l : List ℤ). length l) is_map.base ∙ length-map rows.box removed_value)
+
+  -- pulled back along the map, it is what stands over the kept columns
   pub pulled-work : (work : ReducedRows) → IsReduced rows work → pulled_form placing form ≡ work_form work form
   pulled-work work presolved = pulled-kept rows.box placing form is_map dense ∙ sym (work_form-kept rows work form presolved dense)
 

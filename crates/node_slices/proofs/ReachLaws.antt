@@ -4,10 +4,9 @@ use Rattle.std.proofs.lemmas.List.{ext_get_or, length-append}
 use Rattle.exact_math.specs.Ring.{integers}
 use Rattle.exact_math.specs.IntegerRing.{linear}
 use Rattle.exact_vectors.specs.Vectors.{dot, add, negate, zeros}
-use Rattle.exact_vectors.specs.Matrices.{HasWidth, combination, times_vector}
+use Rattle.exact_vectors.specs.Matrices.{HasWidth, combination}
 use Rattle.exact_vectors.specs.DotLaws as Dot
 use Rattle.exact_vectors.specs.MatrixLaws as Matrix
-use Rattle.exact_vectors.specs.FlatMatrixLaws.{length-rows_of}
 use Rattle.farkas_rows.specs.Inequalities.{unit}
 use Rattle.farkas_rows.specs.NodeLaws.{dot-unit, length-negate, length-unit}
 use Rattle.spaces.specs.Maps.{pulled_constant, pulled_form}
@@ -30,15 +29,15 @@ use Rattle.reformulate.specs.declared.equality.Equality.{Equality}
 use Rattle.node_slices.proofs.FrameCharts.{chart_of_frame, value_at}
 
 -- by how much the form is above the side
-abbrev pub excess : Equality → List ℤ → ℤ
+abbrev excess : Equality → List ℤ → ℤ
 excess equality x = dot integers equality.form x -ℤ equality.side
 
 -- two equalities say the same at the solutions of others
-abbrev pub AgreeOn : ℕ → List Equality → Equality → Equality → Type 0
+abbrev AgreeOn : ℕ → List Equality → Equality → Equality → Type 0
 AgreeOn n equalities e f = (x : List ℤ) → Solves n equalities x → excess e x ≡ excess f x
 
 -- lists with one more item that are the same
-pub same_ends : {A : Type 0} (xs ys : List A) (x y : A) → xs ++ x ∷ [] ≡ ys ++ y ∷ [] → (xs ≡ ys) × (x ≡ y)
+same_ends : {A : Type 0} (xs ys : List A) (x y : A) → xs ++ x ∷ [] ≡ ys ++ y ∷ [] → (xs ≡ ys) × (x ≡ y)
 same_ends [] [] x y e = (refl, cc)
 same_ends [] (b ∷ ys) x y e = absurd (omega (arith, ap length e, length-append ys (y ∷ [])))
 same_ends (a ∷ xs) [] x y e = absurd (omega (arith, ap length e, length-append xs (x ∷ [])))
@@ -54,25 +53,21 @@ regroup b v s = omega linear
 -- ---- at the points of a chart
 
 module _ (n r : ℕ) (equalities : List Equality) (c : Chart) (chart : IsChart n r equalities c) where
-  wide : HasWidth (length c.pair.u) c.pair.v
-  wide = subst (λ k. HasWidth k c.pair.v) (sym chart.pair.height_u) chart.pair.width_v
+  by_rows : IsChart n (length c.pair.u) equalities c
+  by_rows = subst (λ k. IsChart n k equalities c) (sym chart.pair.height_u) chart
 
-  pub many_values : (form : List ℤ) → length (values_at form c.pair) ≡ r
-  many_values form = length-values form c.pair wide ∙ chart.pair.height_u
+  many_values : (form : List ℤ) → length (values_at form c.pair) ≡ r
+  many_values form = length-values form c.pair by_rows.pair.width_v ∙ chart.pair.height_u
 
   excess-point : (g : Equality) (y : List ℤ) → excess g (point_at c y) ≡ dot integers (values_at g.form c.pair) y -ℤ rest_of g c.base
-  excess-point g y =
-      ap (λ v. v -ℤ g.side)
-      (Dot.dot-add_right integers g.form c.base (times_vector integers c.pair.v y) (chart.base ∙ sym (Matrix.length-times_vector integers c.pair.v y ∙ chart.pair.height_v))
-      ∙ ap (λ v. dot integers g.form c.base +ℤ v) (Matrix.dot_times_vector integers (length c.pair.u) g.form c.pair.v y wide))
-      ∙ regroup (dot integers g.form c.base) (dot integers (values_at g.form c.pair) y) g.side
+  excess-point g y = ap (λ v. v -ℤ g.side) (value_at n (length c.pair.u) equalities c by_rows g.form y) ∙ regroup (dot integers g.form c.base) (dot integers (values_at g.form c.pair) y) g.side
 
   module _ (e f : Equality) (same : AgreeOn n equalities e f) where
     at : (y : List ℤ) → length y ≡ r → dot integers (values_at e.form c.pair) y -ℤ rest_of e c.base ≡ dot integers (values_at f.form c.pair) y -ℤ rest_of f c.base
     at y long = sym (excess-point e y) ∙ same (point_at c y) (chart.into y long) ∙ excess-point f y
 
     -- as much is left of both sides
-    pub same_rest : rest_of e c.base ≡ rest_of f c.base
+    same_rest : rest_of e c.base ≡ rest_of f c.base
     same_rest =
         cancel (dot integers (values_at e.form c.pair) (zeros integers r)) (dot integers (values_at f.form c.pair) (zeros integers r)) (rest_of e c.base) (rest_of f c.base)
         (Dot.dot-zeros_right integers r (values_at e.form c.pair)) (Dot.dot-zeros_right integers r (values_at f.form c.pair)) (at (zeros integers r) (Matrix.length-zeros integers r))
@@ -81,7 +76,7 @@ module _ (n r : ℕ) (equalities : List Equality) (c : Chart) (chart : IsChart n
         cancel a b p q ha hb h = omega (linear, ha, hb, h)
 
     -- and both forms have the same values at the vectors
-    pub same_values : values_at e.form c.pair ≡ values_at f.form c.pair
+    same_values : values_at e.form c.pair ≡ values_at f.form c.pair
     same_values =
         ext_get_or (pos 0) (values_at e.form c.pair) (values_at f.form c.pair) (many_values e.form ∙ sym (many_values f.form))
         (λ j lt.
@@ -147,7 +142,7 @@ module _ (n : ℕ) (equalities : List Equality) (e f : Equality) (same : AgreeOn
       let old : FramesAll n equalities from = subst (λ l. FramesAll n l from) both.0 h in
       taken_up equalities f from c steps old (takes_up_same (length from.pair.u) from c steps (FramesAll-chart n equalities from old) (subst (λ q. TakesUp q from steps c) both.1 takes))
 
-  pub reach_same : (all : List Equality) (c : Chart) → Reach n all c → all ≡ equalities ++ e ∷ [] → Reach n (equalities ++ f ∷ []) c
+  reach_same : (all : List Equality) (c : Chart) → Reach n all c → all ≡ equalities ++ e ∷ [] → Reach n (equalities ++ f ∷ []) c
   reach_same all c (at_once whole from to steps h reduces) ends = at_once (equalities ++ f ∷ []) from c steps (frames_same all from h ends) reduces
   reach_same all c (stays before equality c' h is) ends =
       let both = same_ends before equalities equality e ends in

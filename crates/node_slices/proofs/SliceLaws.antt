@@ -1,5 +1,5 @@
 -- What the steps of slicing a frame say of the slice of its node.
-use Rattle.std.proofs.Common.{◌≡◌, ◌⊎◌, inl, inr, ℤ, ◌-ℤ◌, List, [], ◌∷◌, ◌++◌, get_or, length, map, refl, sym, ap, subst, ◌∙◌, append_assoc}
+use Rattle.std.proofs.Common.{◌≡◌, ◌⊎◌, inl, inr, ℤ, ◌-ℤ◌, List, [], ◌∷◌, ◌++◌, length, map, refl, sym, ap, subst, ◌∙◌, append_assoc}
 use Rattle.std.proofs.lemmas.List.{map-append}
 use Rattle.whole_rows.specs.WholeRows.{WholeRows, row_at}
 use Rattle.farkas_rows.specs.declared.path.Slice.{Slice}
@@ -11,24 +11,16 @@ use Rattle.spaces.specs.Maps.{pulled_constant, pulled_form}
 use Rattle.unimodular_pair.specs.Gathering.{IsGatheredPair, StopsAfter}
 use Rattle.unimodular_pair.specs.Pairs.{Matrices}
 use Rattle.unimodular_pair.specs.declared.step.Step.{Step}
-use Rattle.reformulate.specs.Excuses.{StopsSo}
 use Rattle.reformulate.specs.Frames.{IsReachedFrame}
 use Rattle.reformulate.specs.Slices.{IsSlice, SliceLeaves}
 use Rattle.reformulate.specs.Substitutions.{Substitution}
 use Rattle.reformulate.specs.declared.equality.Equality.{Equality}
 use Rattle.reformulate.specs.declared.outcome.FrameExcuse.{FrameExcuse}
 use Rattle.reformulate.specs.declared.outcome.FrameExcuse.TheVariants as excuses
-use Rattle.reformulate.specs.declared.outcome.FrameStop.{FrameStop}
-use Rattle.reformulate.specs.declared.outcome.FrameStop.TheVariants as stops
 use Rattle.presolve_map.specs.ReducedRows.{ReducedRows}
 use Rattle.node_regions.specs.NodeFrames.{IsKeptForm, IsNodeFrame}
 use Rattle.exact_nodes.specs.PathExcuses.{CompletionStops, EqualityLeaves, IsSliceExcuse, PairStops}
 use Rattle.node_slices.proofs.ReachLaws.{slice_reached}
-
--- what follows of an excuse follows of a stop
-pub stops_so : (P Q : FrameExcuse → Type 0) (stop : FrameStop) → ((excuse : FrameExcuse) → P excuse → Q excuse) → StopsSo P stop → StopsSo Q stop
-stops_so P Q (stops.Excuse excuse) step holds = step excuse holds
-stops_so P Q stops.NoMemory step holds = tt
 
 -- one equality more
 more-equalities : (work : ReducedRows) (path : List Slice) (slice : Slice) → node_equalities work path ++ work_slice work slice ∷ [] ≡ node_equalities work (path ++ slice ∷ [])
@@ -74,7 +66,7 @@ module _ (rows : WholeRows) (s : Substitution) (form : List ℤ) (beta : ℤ) (p
   -- in the gathering
   pub excuse_of_completion : (excuse : FrameExcuse) (kernel : List ℤ) → kernel ≡ pulled_form s.to_work w → (steps : List Step) × (excuse ≡ excuses.Product steps) × StopsAfter kernel steps → IsSliceExcuse rows (on_slice path form beta) excuse
   excuse_of_completion excuse kernel is stop =
-      excuse_of excuse (inl (subst (CompletionStops s equality) (sym stop.1.0) (inr (subst (λ (f : List ℤ). StopsAfter f stop.0) is stop.1.1))))
+      excuse_of excuse (inl (subst (CompletionStops s equality) (sym stop.1) (inr (subst (λ (f : List ℤ). StopsAfter f stop.0) is stop.2))))
 
   -- in what follows
   pub excuse_of_pair : (excuse : FrameExcuse) (kernel : List ℤ) (pair : Matrices) (value : ℤ) → kernel ≡ pulled_form s.to_work w → value ≡ beta -ℤ pulled_constant s.to_work w → IsGatheredPair kernel pair → SliceLeaves s pair value excuse → IsSliceExcuse rows (on_slice path form beta) excuse

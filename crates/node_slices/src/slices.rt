@@ -1,5 +1,5 @@
 //! The frame of a slice, from that of its node.
-ghost use Rattle.std.specs.Prelude.{◌≡◌, ◌×◌, ◌⊎◌, ◌≤◌, ◌^◌, ◌-ℤ◌, List, [], get_or, length, IfErr, IfOk};
+ghost use Rattle.std.specs.Prelude.{◌≡◌, ◌⊎◌, ◌≤◌, ◌^◌, ◌-ℤ◌, List, [], get_or, length, IfErr, IfOk};
 ghost use Rattle.whole_rows.specs.WholeRows.{span};
 ghost use Rattle.farkas_rows.specs.declared.path.Slice.{Slice};
 ghost use Rattle.proof_tree.specs.Trees.{on_slice};
@@ -24,7 +24,7 @@ use std::alloc::Global;
 use unimodular_pair::{CompleteStop, Pair};
 use whole_rows::DenseRows;
 
-/// The form over the columns that presolving keeps. Its map places each of these columns, and each sum has one factor.
+/// The form over the columns that presolving keeps. Since it is light, its sums over the map of presolving stay in range.
 fn over_kept(
     alloc: Global,
     rows: &DenseRows,
@@ -55,7 +55,7 @@ struct Turned {
     value: i128,
 }
 
-/// Gathering stops before its first step.
+/// The excuse before the first step.
 fn no_step(alloc: Global) -> FrameStop
     ensures { result ≡ FrameStop.Excuse (FrameExcuse.Product []) }
 {
@@ -63,12 +63,7 @@ fn no_step(alloc: Global) -> FrameStop
 }
 
 /// The form of a slice on the coordinates of a frame, and the value that it has there.
-fn turned(
-    alloc: Global,
-    frame: &Frame,
-    work: &Form<Work>,
-    value: i128,
-) -> Result<Turned, FrameStop>
+fn turn(alloc: Global, frame: &Frame, work: &Form<Work>, value: i128) -> Result<Turned, FrameStop>
     requires { length work.now ≡ columns_of frame.now }
     ensures form { IfOk result (λ turned. turned.form ≡ pulled_form frame.now.to_work work.now) }
     ensures value { IfOk result (λ turned. turned.value ≡ value -ℤ pulled_constant frame.now.to_work work.now) }
@@ -102,7 +97,7 @@ fn completed(alloc: Global, form: &Form<Kernel>) -> Result<Pair, FrameStop>
 }
 
 /// The frame of the points of a node at which the form has the value.
-fn sliced(
+fn slice_of(
     alloc: Global,
     rows: &DenseRows,
     map: &Affine<Work, Original>,
@@ -116,7 +111,7 @@ fn sliced(
     ensures stop { IfErr result (StopsSo (λ excuse. (path : List Slice) → IsSlicedNode rows.now frame.now form.now value path → IsSliceExcuse rows.now (on_slice path form.now value) excuse)) }
 {
     let work = over_kept(alloc, rows, map, form)?;
-    let turned = turned(alloc, frame, &work, value)?;
+    let turned = turn(alloc, frame, &work, value)?;
     let pair = completed(alloc, &turned.form)?;
     let slice = frame.slice(alloc, &pair, turned.value)?;
     Ok(Sliced {
@@ -141,7 +136,7 @@ pub fn slice_frame(
     requires there { (path : List Slice) × IsSlicedNode rows.now frame.now form.now value path }
     ensures { IfOk result (λ answer. (path : List Slice) → IsSlicedNode rows.now frame.now form.now value path → IsSliceAnswer rows.now frame.now form.now value path answer) }
 {
-    match sliced(alloc, rows, map, frame, form, value) {
+    match slice_of(alloc, rows, map, frame, form, value) {
         Ok(sliced) => Ok(SliceFrame::Framed(sliced)),
         Err(FrameStop::Excuse(excuse)) => Ok(SliceFrame::Excused(excuse)),
         Err(FrameStop::NoMemory) => Err(NoMemory),
