@@ -1,3 +1,4 @@
+pub mod EndFacts
 pub mod FreeColumns
 pub mod LiftedForms
 pub mod LineHalts

@@ -1,6 +1,7 @@
 -- The split of a node along a direction, from the ends of its form.
-use Rattle.std.proofs.Common.{◌≡◌, ℕ, ◌+◌, ◌<◌, ◌≤◌, ◌^◌, Bool, true, false, List, [], ◌∷◌, length, get_or, ℤ, pos, neg_ℤ, ◌+ℤ◌, ◌-ℤ◌, ◌≤ℤ◌, refl, sym, ap, ap₂, subst, ◌∙◌, arith}
-use Rattle.std.specs.Prelude.{All, Option, Some}
+use Rattle.std.proofs.Common.{◌≡◌, ℕ, zero, suc, ◌+◌, ◌<◌, ◌≤◌, ◌^◌, Bool, true, false, List, [], ◌∷◌, length, get_or, ℤ, pos, neg_ℤ, ◌+ℤ◌, ◌-ℤ◌, ◌*ℤ◌, ◌≤ℤ◌, refl, sym, ap, ap₂, subst, ◌∙◌, arith}
+use Rattle.std.specs.Prelude.{All, FitsSigned, Option, Some, of_z, to_z}
+use Rattle.std.proofs.lemmas.Int.{to_z-of_z}
 use Rattle.std.proofs.lemmas.List.Elements.{All-cons, All-head, All-nil, All-tail}
 use Rattle.std.proofs.lemmas.Slice.Zip.{AllZip-long}
 use Rattle.exact_math.specs.IntegerRing.{linear}
@@ -46,6 +47,7 @@ use Rattle.exact_nodes.specs.ThinMoves.{IsThinAlong}
 use Rattle.exact_nodes.proofs.FreeColumns.{direction_within, frame_has_free_column, line_within, widest_select}
 use Rattle.exact_nodes.proofs.NodeFacts.{node_reached, node_reduced}
 use Rattle.exact_nodes.proofs.WholeEnds.{first_above, first_by_last, last_below, last_by_first}
+use mir.Syntax.{w128}
 
 -- ---- forms that are all 0
 
@@ -82,6 +84,39 @@ combination_none n (a ∷ form) (line ∷ lines) h =
     add_none (scale integers a line) (combination integers n form lines)
     (subst (λ (k : ℤ). IsNone (scale integers k line)) (sym (All-head (λ (factor : ℤ). factor ≡ pos 0) a form h)) (scale_none line))
     (combination_none n form lines (All-tail (λ (factor : ℤ). factor ≡ pos 0) a form h))
+
+-- ---- the numbers of a split
+
+-- The first and the last value are small, and the first one is at most one more than the last one.
+pub record AreEnds (lo last : ℤ) : Type 0 where
+  pub near : lo ≤ℤ (last +ℤ pos 1)
+  pub low : neg_ℤ (pos (2 ^ 96)) ≤ℤ lo
+  pub high : last ≤ℤ pos (2 ^ 96)
+
+module _ (lo last : ℤ) (ends : AreEnds lo last) where
+  pub first_fits : FitsSigned w128 lo
+  first_fits = omega (arith, linear, ends.near, ends.low, ends.high)
+
+  pub last_fits : FitsSigned w128 last
+  last_fits = omega (arith, linear, ends.near, ends.low, ends.high)
+
+  pub difference_fits : FitsSigned w128 (last -ℤ lo)
+  difference_fits = omega (arith, linear, ends.near, ends.low, ends.high)
+
+  pub count_fits : FitsSigned w128 ((last -ℤ lo) +ℤ pos 1)
+  count_fits = omega (arith, linear, ends.near, ends.low, ends.high)
+
+  pub first_stored : to_z w128 (of_z w128 lo) ≡ lo
+  first_stored = to_z-of_z w128 lo first_fits
+
+  pub difference_stored : to_z w128 (of_z w128 last) -ℤ to_z w128 (of_z w128 lo) ≡ last -ℤ lo
+  difference_stored = ap₂ ◌-ℤ◌ (to_z-of_z w128 last last_fits) first_stored
+
+  pub count_summed : to_z w128 (of_z w128 (to_z w128 (of_z w128 last) -ℤ to_z w128 (of_z w128 lo))) +ℤ pos 1 ≡ (last -ℤ lo) +ℤ pos 1
+  count_summed = ap (λ (z : ℤ). to_z w128 (of_z w128 z) +ℤ pos 1) difference_stored ∙ ap (λ (z : ℤ). z +ℤ pos 1) (to_z-of_z w128 (last -ℤ lo) difference_fits)
+
+  pub count_stored : to_z w128 (of_z w128 (to_z w128 (of_z w128 (to_z w128 (of_z w128 last) -ℤ to_z w128 (of_z w128 lo))) +ℤ pos 1)) ≡ (last -ℤ lo) +ℤ pos 1
+  count_stored = ap (λ (z : ℤ). to_z w128 (of_z w128 z)) count_summed ∙ to_z-of_z w128 ((last -ℤ lo) +ℤ pos 1) count_fits
 
 -- ---- the split
 
@@ -133,25 +168,29 @@ module _ (rows : WholeRows) (work : ReducedRows) (frame : Substitution) (path : 
 
   module _ (constant lo last : ℤ) (same_constant : constant ≡ dot integers (back_form frame form) frame.to_work.base) (light : span model_form rows.box ≤ 2 ^ 96) (first : IsFirstValue (node_polytope frame work cut) form constant lo) (final : IsLastValue (node_polytope frame work cut) form constant last) where
     -- the first value is at most one more than the last one
-    pub first_near : lo ≤ℤ (last +ℤ pos 1)
+    first_near : lo ≤ℤ (last +ℤ pos 1)
     first_near =
         let near = first_by_last (form_value form first.point) (form_value form final.point) (first.least final.point final.there) in
         omega (linear, near, first.value, final.value)
 
     -- both are small
-    pub first_small : neg_ℤ (pos (2 ^ 96)) ≤ℤ lo
+    first_small : neg_ℤ (pos (2 ^ 96)) ≤ℤ lo
     first_small =
         let x = forth constant same_constant first.point first.there in
         let low = value_least model_form rows.box x.0 x.1.0.in_box in
         let above_low = first_above (form_value form first.point) constant (neg_ℤ (pos (span model_form rows.box))) (subst (λ (q : ℚ). whole (neg_ℤ (pos (span model_form rows.box))) ≤ℚ q) x.1.1 low) in
         omega (linear, above_low, first.value, light)
 
-    pub last_small : last ≤ℤ pos (2 ^ 96)
+    last_small : last ≤ℤ pos (2 ^ 96)
     last_small =
         let x = forth constant same_constant final.point final.there in
         let high = value_greatest model_form rows.box x.0 x.1.0.in_box in
         let below_high = last_below (form_value form final.point) constant (pos (span model_form rows.box)) (subst (λ (q : ℚ). q ≤ℚ whole (pos (span model_form rows.box))) x.1.1 high) in
         omega (linear, below_high, final.value, light)
+
+    -- the ends of the split
+    pub split_ends : AreEnds lo last
+    split_ends = record { near = first_near; low = first_small; high = last_small }
 
     -- there are no more values than the widest column has
     last_near : last ≤ℤ (lo +ℤ pos (widest rows.box))
