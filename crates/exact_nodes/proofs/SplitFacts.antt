@@ -1,7 +1,7 @@
 -- The split of a node along a direction, from the ends of its form.
-use Rattle.std.proofs.Common.{◌≡◌, ℕ, zero, suc, ◌+◌, ◌<◌, ◌≤◌, ◌^◌, Bool, true, false, List, [], ◌∷◌, length, get_or, ℤ, pos, neg_ℤ, ◌+ℤ◌, ◌-ℤ◌, ◌*ℤ◌, ◌≤ℤ◌, refl, sym, ap, ap₂, subst, ◌∙◌, arith}
-use Rattle.std.specs.Prelude.{All, FitsSigned, Option, Some, of_z, to_z}
-use Rattle.std.proofs.lemmas.Int.{to_z-of_z}
+use Rattle.std.proofs.Common.{◌≡◌, ℕ, zero, suc, ◌+◌, ◌<◌, ◌≤◌, ◌^◌, Bool, true, false, List, [], ◌∷◌, length, get_or, ℤ, pos, neg_ℤ, ◌+ℤ◌, ◌-ℤ◌, ◌*ℤ◌, ◌≤ℤ◌, refl, sym, ap, ap₂, subst, ◌∙◌, arith, FitsSigned, of_z, to_z}
+use Rattle.std.specs.Prelude.{All, Option, Some}
+use Rattle.std.proofs.lemmas.Int.{ints, to_z-of_z}
 use Rattle.std.proofs.lemmas.List.Elements.{All-cons, All-head, All-nil, All-tail}
 use Rattle.std.proofs.lemmas.Slice.Zip.{AllZip-long}
 use Rattle.exact_math.specs.IntegerRing.{linear}
@@ -95,16 +95,16 @@ pub record AreEnds (lo last : ℤ) : Type 0 where
 
 module _ (lo last : ℤ) (ends : AreEnds lo last) where
   pub first_fits : FitsSigned w128 lo
-  first_fits = omega (arith, linear, ends.near, ends.low, ends.high)
+  first_fits = omega (arith, ints, ends.near, ends.low, ends.high)
 
   pub last_fits : FitsSigned w128 last
-  last_fits = omega (arith, linear, ends.near, ends.low, ends.high)
+  last_fits = omega (arith, ints, ends.near, ends.low, ends.high)
 
   pub difference_fits : FitsSigned w128 (last -ℤ lo)
-  difference_fits = omega (arith, linear, ends.near, ends.low, ends.high)
+  difference_fits = omega (arith, ints, ends.near, ends.low, ends.high)
 
   pub count_fits : FitsSigned w128 ((last -ℤ lo) +ℤ pos 1)
-  count_fits = omega (arith, linear, ends.near, ends.low, ends.high)
+  count_fits = omega (arith, ints, ends.near, ends.low, ends.high)
 
   pub first_stored : to_z w128 (of_z w128 lo) ≡ lo
   first_stored = to_z-of_z w128 lo first_fits
@@ -125,7 +125,7 @@ module _ (rows : WholeRows) (work : ReducedRows) (frame : Substitution) (path : 
   same_form = ap (pulled_form frame.to_work) is.same ∙ pulled-back frame form substitution chosen.0.coordinates
 
   model_long : length model_form ≡ length rows.box
-  model_long = sym (AllZip-long _ _ _ is.kept)
+  model_long = AllZip-long _ _ _ is.kept
 
   -- the form over all columns is not all 0
   model_some : IsNone model_form → ⊥
