@@ -1,5 +1,5 @@
 -- A frame of some coordinates has a free column, and a direction is no wider than the widest column.
-use Rattle.std.proofs.Common.{◌≡◌, ◌≢◌, ◌⊎◌, inl, inr, ⊎_elim, ℕ, zero, suc, ◌<◌, ◌≤◌, Bool, true, false, List, [], ◌∷◌, length, get_or, map, max, ℤ, pos, negsuc, nat_abs, int_div, ◌+ℤ◌, ◌-ℤ◌, ◌*ℤ◌, ◌≤ℤ◌, refl, sym, ap, ap₂, subst, ◌∙◌, arith}
+use Rattle.std.proofs.Common.{◌≡◌, ◌≢◌, ◌⊎◌, inl, inr, ⊎_elim, ℕ, zero, suc, ◌<◌, ◌≤◌, Bool, true, false, List, [], ◌∷◌, length, get_or, map, max, ℤ, pos, negsuc, nat_abs, int_div, ◌-ℤ◌, ◌*ℤ◌, ◌≤ℤ◌, refl, sym, ap, ap₂, subst, ◌∙◌, arith}
 use Rattle.std.specs.Prelude.{All}
 use Rattle.std.specs.Int.{◌∣◌}
 use Rattle.std.proofs.lemmas.Bool.{cases_eq}
@@ -11,7 +11,7 @@ use Rattle.exact_math.specs.Rational.{ℚ, whole, ◌+ℚ◌, ◌-ℚ◌, ◌*�
 use Rattle.exact_math.specs.RationalOrder.{le_of_lt, le_or_lt, le_trans, whole_le}
 use Rattle.exact_math.specs.RationalRing.{rationals}
 use Rattle.exact_math.specs.RingSolver.{ring, reads}
-use Rattle.exact_vectors.specs.Vectors.{add, dot, scale, zeros}
+use Rattle.exact_vectors.specs.Vectors.{dot, scale, zeros}
 use Rattle.exact_vectors.specs.Matrices.{times_vector}
 use Rattle.whole_rows.specs.declared.bounds.Bounds.{Bounds}
 use Rattle.farkas_rows.specs.Inequalities.{unit}

@@ -1,5 +1,5 @@
 -- The only point of a frame without coordinates, among all columns.
-use Rattle.std.proofs.Common.{◌≡◌, ◌⊎◌, inl, inr, ℕ, zero, suc, ◌<◌, ◌≤◌, ◌^◌, Bool, true, false, List, [], ◌∷◌, length, get_or, map, ℤ, pos, nat_abs, ◌+ℤ◌, ◌-ℤ◌, ◌*ℤ◌, ◌≤ℤ◌, ◌<ℤ◌, refl, sym, ap, ap₂, subst, ◌∙◌, arith}
+use Rattle.std.proofs.Common.{◌≡◌, inl, inr, ℕ, zero, suc, ◌<◌, ◌≤◌, ◌^◌, Bool, true, false, List, [], ◌∷◌, length, get_or, map, ℤ, pos, nat_abs, ◌+ℤ◌, ◌-ℤ◌, ◌*ℤ◌, ◌≤ℤ◌, ◌<ℤ◌, refl, sym, ap, ap₂, subst, ◌∙◌, arith}
 use Rattle.std.specs.Prelude.{All, FitsSigned, IfSome, Option, Some, None}
 use Rattle.std.proofs.lemmas.Bool.{cond_both}
 use Rattle.std.proofs.lemmas.Int.{ints}
@@ -12,11 +12,11 @@ use Rattle.exact_math.specs.RationalOrder.{le_from_whole}
 use Rattle.exact_math.specs.RationalRing.{rationals}
 use Rattle.exact_math.specs.RingSolver.{ring, reads}
 use Rattle.exact_vectors.specs.Range.{StaysInRange}
-use Rattle.exact_vectors.specs.Vectors.{add, dot, zeros}
+use Rattle.exact_vectors.specs.Vectors.{dot, zeros}
 use Rattle.exact_vectors.specs.DotLaws as Dot
 use Rattle.whole_vectors.specs.WholeVectorLaws.{dot-map_whole, whole-injective}
 use Rattle.whole_rows.specs.declared.bounds.Bounds.{Bounds}
-use Rattle.whole_rows.specs.WholeRows.{WholeRow, WholeRows, IsWithin, IsWithinLimits, LiesIn, Meets, MeetsRow, cut_value, reach}
+use Rattle.whole_rows.specs.WholeRows.{WholeRow, WholeRows, IsWithin, IsWithinLimits, LiesIn, MeetsRow, reach}
 use Rattle.farkas_rows.specs.declared.path.Slice.{Slice}
 use Rattle.farkas_rows.specs.Inequalities.{unit}
 use Rattle.node_point.specs.RationalPoints as rational_points

@@ -1,19 +1,18 @@
 -- The split of a node along a direction, from the ends of its form.
-use Rattle.std.proofs.Common.{◌≡◌, ℕ, zero, suc, ◌+◌, ◌<◌, ◌≤◌, ◌^◌, Bool, true, false, List, [], ◌∷◌, length, get_or, ℤ, pos, neg_ℤ, ◌+ℤ◌, ◌-ℤ◌, ◌*ℤ◌, ◌≤ℤ◌, refl, sym, ap, ap₂, subst, ◌∙◌, arith, FitsSigned, of_z, to_z}
+use Rattle.std.proofs.Common.{◌≡◌, ℕ, zero, suc, ◌<◌, ◌≤◌, ◌^◌, Bool, true, false, List, [], ◌∷◌, length, get_or, ℤ, pos, neg_ℤ, ◌+ℤ◌, ◌-ℤ◌, ◌*ℤ◌, ◌≤ℤ◌, refl, sym, ap, ap₂, subst, ◌∙◌, arith, FitsSigned, of_z, to_z}
 use Rattle.std.specs.Prelude.{All, Option, Some}
 use Rattle.std.proofs.lemmas.Int.{ints, to_z-of_z}
 use Rattle.std.proofs.lemmas.List.Elements.{All-cons, All-head, All-nil, All-tail}
 use Rattle.std.proofs.lemmas.Slice.Zip.{AllZip-long}
 use Rattle.exact_math.specs.IntegerRing.{linear}
 use Rattle.exact_math.specs.Ring.{integers}
-use Rattle.exact_math.specs.Rational.{ℚ, whole, floor, ceil, ◌+ℚ◌, ◌-ℚ◌, ◌≤ℚ◌}
+use Rattle.exact_math.specs.Rational.{ℚ, whole, ceil, ◌≤ℚ◌}
 use Rattle.exact_math.specs.RationalOrder.{le_trans, whole_le}
 use Rattle.exact_vectors.specs.Vectors.{add, dot, scale, zeros}
 use Rattle.exact_vectors.specs.Matrices.{combination}
 use Rattle.whole_rows.specs.declared.bounds.Bounds.{Bounds}
 use Rattle.whole_rows.specs.WholeRows.{WholeRows, IsWithinLimits, span}
 use Rattle.farkas_rows.specs.declared.path.Slice.{Slice}
-use Rattle.farkas_rows.specs.declared.line.Line.{Line}
 use Rattle.farkas_rows.specs.Inequalities.{above, below}
 use Rattle.node_point.specs.RationalPoints.{form_value, IsRationalPoint}
 use Rattle.form_widths.specs.Directions.{IsDirection}
@@ -22,14 +21,12 @@ use Rattle.form_widths.specs.PrimitiveLaws.{primitive_nonzero}
 use Rattle.form_widths.specs.Slices.{AreSlices}
 use Rattle.form_widths.specs.Widths.{IsBoundOn}
 use Rattle.proof_tree.specs.Moves.{ClosesUnder, SplitsUnder, widest}
-use Rattle.proof_tree.specs.Trees.{IsOfSize, IsSplitForm}
+use Rattle.proof_tree.specs.Trees.{IsSplitForm}
 use Rattle.proof_tree.specs.declared.tree.Cut.{Cut}
-use Rattle.spaces.specs.Maps.{pulled_constant, pulled_form}
+use Rattle.spaces.specs.Maps.{pulled_form}
 use Rattle.spaces.specs.Tables.{rows_in}
-use Rattle.norm_gauge.specs.Widths.{Has}
-use Rattle.reformulate.specs.Substitutions.{IsShaped, IsSubstitution, Substitution, columns_of, dimension_of}
-use Rattle.rational_frames.specs.RationalFrames.{rational_point_of}
-use Rattle.presolve_map.specs.Columns.{kept, open_flags}
+use Rattle.reformulate.specs.Substitutions.{IsSubstitution, Substitution, dimension_of}
+use Rattle.presolve_map.specs.Columns.{open_flags}
 use Rattle.presolve_map.specs.ReducedRows.{ReducedRows}
 use Rattle.presolve_map.specs.Selections.{select}
 use Rattle.farkas_lift.specs.NodeEqualities.{work_form}
@@ -39,7 +36,6 @@ use Rattle.node_regions.specs.KeptFormLaws.{work_form-kept}
 use Rattle.node_regions.specs.LightFormLaws.{pulled-back, value_greatest, value_least}
 use Rattle.node_regions.specs.NodeFrames.{IsKeptForm}
 use Rattle.node_regions.specs.NodeRegions.{IsInNode, node_polytope}
-use Rattle.node_regions.specs.PlacedPoints.{IsInBox}
 use Rattle.exact_nodes.specs.ExactMoves.{IsNodeOf}
 use Rattle.exact_nodes.specs.NodeExcuses.{IsChosenDirection, IsModelForm, back_form}
 use Rattle.exact_nodes.specs.Regions.{IsFirstValue, IsLastValue}
@@ -93,30 +89,34 @@ pub record AreEnds (lo last : ℤ) : Type 0 where
   pub low : neg_ℤ (pos (2 ^ 96)) ≤ℤ lo
   pub high : last ≤ℤ pos (2 ^ 96)
 
+-- a number as it is stored
+abbrev pub stored : ℤ → ℤ
+stored z = to_z w128 (of_z w128 z)
+
 module _ (lo last : ℤ) (ends : AreEnds lo last) where
-  pub first_fits : FitsSigned w128 lo
+  first_fits : FitsSigned w128 lo
   first_fits = omega (arith, ints, ends.near, ends.low, ends.high)
 
-  pub last_fits : FitsSigned w128 last
+  last_fits : FitsSigned w128 last
   last_fits = omega (arith, ints, ends.near, ends.low, ends.high)
 
-  pub difference_fits : FitsSigned w128 (last -ℤ lo)
+  difference_fits : FitsSigned w128 (last -ℤ lo)
   difference_fits = omega (arith, ints, ends.near, ends.low, ends.high)
 
-  pub count_fits : FitsSigned w128 ((last -ℤ lo) +ℤ pos 1)
+  count_fits : FitsSigned w128 ((last -ℤ lo) +ℤ pos 1)
   count_fits = omega (arith, ints, ends.near, ends.low, ends.high)
 
-  pub first_stored : to_z w128 (of_z w128 lo) ≡ lo
-  first_stored = to_z-of_z w128 lo first_fits
+  first_is : stored lo ≡ lo
+  first_is = to_z-of_z w128 lo first_fits
 
-  pub difference_stored : to_z w128 (of_z w128 last) -ℤ to_z w128 (of_z w128 lo) ≡ last -ℤ lo
-  difference_stored = ap₂ ◌-ℤ◌ (to_z-of_z w128 last last_fits) first_stored
+  difference_is : stored last -ℤ stored lo ≡ last -ℤ lo
+  difference_is = ap₂ ◌-ℤ◌ (to_z-of_z w128 last last_fits) first_is
 
-  pub count_summed : to_z w128 (of_z w128 (to_z w128 (of_z w128 last) -ℤ to_z w128 (of_z w128 lo))) +ℤ pos 1 ≡ (last -ℤ lo) +ℤ pos 1
-  count_summed = ap (λ (z : ℤ). to_z w128 (of_z w128 z) +ℤ pos 1) difference_stored ∙ ap (λ (z : ℤ). z +ℤ pos 1) (to_z-of_z w128 (last -ℤ lo) difference_fits)
+  sum_is : stored (stored last -ℤ stored lo) +ℤ pos 1 ≡ (last -ℤ lo) +ℤ pos 1
+  sum_is = ap (λ (z : ℤ). stored z +ℤ pos 1) difference_is ∙ ap (λ (z : ℤ). z +ℤ pos 1) (to_z-of_z w128 (last -ℤ lo) difference_fits)
 
-  pub count_stored : to_z w128 (of_z w128 (to_z w128 (of_z w128 (to_z w128 (of_z w128 last) -ℤ to_z w128 (of_z w128 lo))) +ℤ pos 1)) ≡ (last -ℤ lo) +ℤ pos 1
-  count_stored = ap (λ (z : ℤ). to_z w128 (of_z w128 z)) count_summed ∙ to_z-of_z w128 ((last -ℤ lo) +ℤ pos 1) count_fits
+  count_is : stored (stored (stored last -ℤ stored lo) +ℤ pos 1) ≡ (last -ℤ lo) +ℤ pos 1
+  count_is = ap stored sum_is ∙ to_z-of_z w128 ((last -ℤ lo) +ℤ pos 1) count_fits
 
 -- ---- the split
 
@@ -188,9 +188,15 @@ module _ (rows : WholeRows) (work : ReducedRows) (frame : Substitution) (path : 
         let below_high = last_below (form_value form final.point) constant (pos (span model_form rows.box)) (subst (λ (q : ℚ). q ≤ℚ whole (pos (span model_form rows.box))) x.1.1 high) in
         omega (linear, below_high, final.value, light)
 
-    -- the ends of the split
-    pub split_ends : AreEnds lo last
-    split_ends = record { near = first_near; low = first_small; high = last_small }
+    ends : AreEnds lo last
+    ends = record { near = first_near; low = first_small; high = last_small }
+
+    -- no number on the way to the count leaves its range
+    pub difference_in_range : FitsSigned w128 (stored last -ℤ stored lo)
+    difference_in_range = subst (FitsSigned w128) (sym (difference_is lo last ends)) (difference_fits lo last ends)
+
+    pub sum_in_range : FitsSigned w128 (stored (stored last -ℤ stored lo) +ℤ pos 1)
+    sum_in_range = subst (FitsSigned w128) (sym (sum_is lo last ends)) (count_fits lo last ends)
 
     -- there are no more values than the widest column has
     last_near : last ≤ℤ (lo +ℤ pos (widest rows.box))
@@ -204,9 +210,8 @@ module _ (rows : WholeRows) (work : ReducedRows) (frame : Substitution) (path : 
         (subst (λ (t : ℤ). AreSlices (IsRationalPoint rows path cut) model_form (ceil (form_value form first.point) +ℤ constant) ((t -ℤ (ceil (form_value form first.point) +ℤ constant)) +ℤ pos 1)) (sym final.value)
         (slices_from_ends (IsRationalPoint rows path cut) (IsInNode frame work cut) model_form form constant first.point final.point (forth constant same_constant) (back constant same_constant) first.there final.there first.least final.greatest))
 
-    -- The values from the first to the last one are the slices of a split along the direction.
-    pub split_is_thin : (c : Cut) → c.form ≡ model_form → c.lo ≡ lo → c.count ≡ (last -ℤ lo) +ℤ pos 1 → IsThinAlong rows path cut c
-    split_is_thin c f l n = record {
+    thin_by : (c : Cut) → c.form ≡ model_form → c.lo ≡ lo → c.count ≡ (last -ℤ lo) +ℤ pos 1 → IsThinAlong rows path cut c
+    thin_by c f l n = record {
       frame = frame;
       of_node = node.of_node;
       kept = subst (λ (g : List ℤ). IsKeptForm rows.box g) (sym f) is.kept;
@@ -216,9 +221,12 @@ module _ (rows : WholeRows) (work : ReducedRows) (frame : Substitution) (path : 
           (subst (λ (z : ℤ). AreSlices (IsRationalPoint rows path cut) model_form z c.count) (sym l) (subst (AreSlices (IsRationalPoint rows path cut) model_form lo) (sym n) slices_are));
     }
 
-    -- Its ends are closed.
-    pub split_is_closed : (c : Cut) → c.form ≡ model_form → c.lo ≡ lo → c.count ≡ (last -ℤ lo) +ℤ pos 1 → ClosesUnder rows cut path (Some (below model_form lo)) c.below → ClosesUnder rows cut path (Some (above model_form (last +ℤ pos 1))) c.above → SplitsUnder rows cut path c
-    split_is_closed c f l n lower upper = record {
+    -- The values from the first to the last one are the slices of a split along the direction.
+    pub split_is_thin : (c : Cut) → c.form ≡ model_form → c.lo ≡ stored lo → c.count ≡ stored (stored (stored last -ℤ stored lo) +ℤ pos 1) → IsThinAlong rows path cut c
+    split_is_thin c f l n = thin_by c f (l ∙ first_is lo last ends) (n ∙ count_is lo last ends)
+
+    closed_by : (c : Cut) → c.form ≡ model_form → c.lo ≡ lo → c.count ≡ (last -ℤ lo) +ℤ pos 1 → ClosesUnder rows cut path (Some (below model_form lo)) c.below → ClosesUnder rows cut path (Some (above model_form (last +ℤ pos 1))) c.above → SplitsUnder rows cut path c
+    closed_by c f l n lower upper = record {
       form = subst (IsSplitForm rows) (sym f) (record { dense = model_long; some = model_some; light = light });
       lo = (omega (linear, l, first_small), omega (linear, l, first_near, last_small));
       count = (omega (linear, n, first_near), omega (linear, n, first_small, last_small));
@@ -229,3 +237,7 @@ module _ (rows : WholeRows) (work : ReducedRows) (frame : Substitution) (path : 
       where
         next : (first many : ℤ) → first ≡ lo → many ≡ (last -ℤ lo) +ℤ pos 1 → last +ℤ pos 1 ≡ first +ℤ many
         next first many l n = omega (linear, l, n)
+
+    -- Its ends are closed.
+    pub split_is_closed : (c : Cut) → c.form ≡ model_form → c.lo ≡ stored lo → c.count ≡ stored (stored (stored last -ℤ stored lo) +ℤ pos 1) → ClosesUnder rows cut path (Some (below model_form lo)) c.below → ClosesUnder rows cut path (Some (above model_form (last +ℤ pos 1))) c.above → SplitsUnder rows cut path c
+    split_is_closed c f l n lower upper = closed_by c f (l ∙ first_is lo last ends) (n ∙ count_is lo last ends) lower upper

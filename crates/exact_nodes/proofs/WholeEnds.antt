@@ -1,5 +1,5 @@
 -- The whole numbers between two ends.
-use Rattle.std.proofs.Common.{◌≡◌, ℕ, [], ◌∷◌, ℤ, pos, neg_ℤ, ◌+ℤ◌, ◌-ℤ◌, ◌≤ℤ◌, refl, sym, ap, subst, ◌∙◌}
+use Rattle.std.proofs.Common.{◌≡◌, [], ◌∷◌, ℤ, pos, ◌+ℤ◌, ◌≤ℤ◌, refl, sym, subst}
 use Rattle.exact_math.specs.Rational.{ℚ, whole, floor, ceil, ◌+ℚ◌, ◌-ℚ◌, ◌≤ℚ◌}
 use Rattle.exact_math.specs.RationalFloor.{ceil_le, floor_le, le_ceil, lt_floor_next}
 use Rattle.exact_math.specs.RationalOrder.{add_le_right, le_from_whole, le_of_lt, le_trans}
