@@ -1,5 +1,7 @@
 mod ColumnLaws
 mod DirectionLaws
+mod LimitLaws
+mod OneCoordinateLaws
 mod ShownLaws
 mod SideLaws
 mod SlackLaws

@@ -40,6 +40,7 @@ use Rattle.shown_widths.specs.Columns.{column_value, AreApart, IsOneOf, IsShownW
 use Rattle.shown_widths.specs.Points.{work_fractions}
 use Rattle.shown_widths.specs.Thin.{IsThinBy}
 use Rattle.shown_widths.proofs.ColumnLaws.{combination-unit, divisor_of_multiple, none_by, primitive_by}
+use Rattle.shown_widths.proofs.OneCoordinateLaws.{one_coordinate}
 use Rattle.shown_widths.proofs.DirectionLaws.{all_coordinates, bound_in_region, thin_shown, with_coordinates, HasCoordinates}
 
 -- a multiple that is all 0
@@ -156,4 +157,23 @@ module _ (model : WholeRows) (work : ReducedRows) (frame : Substitution) (path :
           primitive = primitive_by (pulled_form frame.to_work (work_form work form)) lowest;
           thin = λ other long nonzero. thin_shown model work frame path cut limits shaped framed shown.width shown.times points (pulled_form frame.to_work (work_form work form)) size other are some_points shown.some shown.few shown.factor shown.not_negative shown.enough in_region shown.leave long nonzero;
           columns = λ column other free. column_no_wider (pulled_form frame.to_work (work_form work form)) size column other in_region (shown.wide column (subst (λ (m : ℕ). column < m) (length-rows_in frame.to_work.lines) free.there)) free;
+        }
+
+    -- In one coordinate each primitive form is a direction.
+    pub direction_in_one : (form : List ℤ) → 0 < length points → dimension_of frame ≡ 1 → common_divisor (pulled_form frame.to_work (work_form work form)) ≡ 1 → IsDirection (IsInNode frame work cut) (dimension_of frame) (rows_in frame.to_work.lines) (pulled_form frame.to_work (work_form work form))
+    direction_in_one form some_points one lowest =
+        let c = all_coordinates model work frame path cut limits shaped framed points are in
+        let pulled = pulled_form frame.to_work (work_form work form) in
+        let width = HasWidth-rows_in frame.to_work.lines shaped.size_lines in
+        let long = Matrix.length-combination integers (dimension_of frame) (work_form work form) (rows_in frame.to_work.lines) width in
+        let there = All-get_or (IsInNode frame work cut) c.ys 0 [] (omega (arith, c.as_many, some_points)) c.there in
+        let primitive = primitive_by pulled lowest in
+        record {
+          some = omega (arith, one);
+          point = get_or c.ys 0 [];
+          has_point = there;
+          coordinates = long;
+          primitive = primitive;
+          thin = λ other wide nonzero. subst (λ (r : ℕ). IsNoWiderThan (4 ^ (r - 1)) (IsInNode frame work cut) pulled other) (sym one) (one_coordinate (IsInNode frame work cut) pulled other (get_or c.ys 0 []) there (long ∙ one) primitive (wide ∙ one) nonzero);
+          columns = λ column other free. one_coordinate (IsInNode frame work cut) pulled other (get_or c.ys 0 []) there (long ∙ one) primitive (sym (Matrix.length-scale integers (pos free.divisor) other) ∙ ap (λ (l : List ℤ). length l) (sym free.line) ∙ Matrix.HasWidth-at integers (dimension_of frame) (rows_in frame.to_work.lines) column [] width free.there ∙ one) (primitive_nonzero other free.primitive);
         }

@@ -76,7 +76,7 @@ fn is_thin(
 ///
 /// The width of the form is read off the lines. It is compared with the room of the mean of the points in each coordinate of the
 /// frame, times 4^(r-1), and with the difference of two points in each free column. A form that is a direction may be answered
-/// to be none: where the points are too few, or a number leaves 128 bits.
+/// to be none: where the points are too few, or a number leaves 128 bits. In one coordinate each primitive form is a direction.
 pub fn is_direction<'a>(
     alloc: Global,
     node: Node<'a>,
@@ -103,6 +103,9 @@ pub fn is_direction<'a>(
     };
     if divisor != 1 {
         return Ok(false);
+    }
+    if node.frame.dimension() == 1 {
+        return Ok(true);
     }
     let Some(width) = width_of(node, cut) else {
         return Ok(false);

@@ -6,6 +6,7 @@
 
 mod columns;
 mod direction;
+mod limits;
 mod node;
 mod point;
 mod room;
