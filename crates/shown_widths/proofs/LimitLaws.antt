@@ -98,8 +98,8 @@ module _ (rows : WholeRows) (path : List Slice) (end : Inequality) where
   sum-none (Some cut) = omega linear
 
   -- one more item
-  pub sum-more : (cut : Option CutUse) (items : List Use) (i : ℕ) (item : Use) (limit : ℤ) → i < length items → get_or items i item ≡ item → limit_at rows path end item.index ≡ Some limit → limit_sum rows path end (line_of cut (take (i + 1) items)) ≡ limit_sum rows path end (line_of cut (take i items)) +ℤ item.times *ℤ limit
-  sum-more cut items i item limit lt at is =
-      ap (λ (l : List Use). limit_sum rows path end (line_of cut l)) (take_more items i item lt ∙ ap (λ (x : Use). take i items ++ x ∷ []) at)
-      ∙ sum-parts cut (take i items ++ item ∷ [])
-      ∙ omega (linear, items_sum-append (take i items) item, sum-parts cut (take i items), ap (λ t. item.times *ℤ t) (item_limit-is item limit is))
+  pub sum-more : (cut : Option CutUse) (items : List Use) (i : ℕ) (d : Use) (limit : ℤ) → i < length items → limit_at rows path end (get_or items i d).index ≡ Some limit → limit_sum rows path end (line_of cut (take (i + 1) items)) ≡ limit_sum rows path end (line_of cut (take i items)) +ℤ (get_or items i d).times *ℤ limit
+  sum-more cut items i d limit lt is =
+      ap (λ (l : List Use). limit_sum rows path end (line_of cut l)) (take_more items i d lt)
+      ∙ sum-parts cut (take i items ++ get_or items i d ∷ [])
+      ∙ omega (linear, items_sum-append (take i items) (get_or items i d), sum-parts cut (take i items), ap (λ t. (get_or items i d).times *ℤ t) (item_limit-is (get_or items i d) limit is))

@@ -9,7 +9,7 @@ use Rattle.exact_math.specs.IntegerOrder.{abs_mul}
 use Rattle.exact_math.specs.IntegerRing.{linear}
 use Rattle.exact_math.specs.Ring.{integers}
 use Rattle.exact_math.specs.RingSolver.{ring, reads}
-use Rattle.exact_math.specs.Rational.{ℚ, frac, ratio, whole, ◌+ℚ◌, ◌-ℚ◌, ◌*ℚ◌, ◌/ℚ◌, ◌≤ℚ◌}
+use Rattle.exact_math.specs.Rational.{ℚ, whole, ◌+ℚ◌, ◌-ℚ◌, ◌*ℚ◌, ◌/ℚ◌, ◌≤ℚ◌}
 use Rattle.exact_math.specs.RationalOrder.{le_trans, mul_le, whole_le}
 use Rattle.exact_math.specs.RationalRing.{rationals}
 use Rattle.exact_vectors.specs.Vectors.{dot, scale}
@@ -26,7 +26,6 @@ use Rattle.form_widths.specs.Directions.{IsDirection, IsFreeColumn}
 use Rattle.form_widths.specs.FormLaws.{form_value-unit}
 use Rattle.form_widths.specs.PrimitiveLaws.{primitive_nonzero}
 use Rattle.form_widths.specs.PulledLaws.{form_value-point_over}
-use Rattle.form_widths.specs.RationalOrderLaws.{quotient-frac}
 use Rattle.form_widths.specs.WidthLaws.{no_wider_by_multiple}
 use Rattle.form_widths.specs.Widths.{IsBoundOn, IsNoWiderThan, IsPrimitive}
 use Rattle.unimodular_pair.specs.Gathering.{common_divisor}
@@ -41,6 +40,7 @@ use Rattle.shown_widths.specs.Points.{work_fractions}
 use Rattle.shown_widths.specs.Thin.{IsThinBy}
 use Rattle.shown_widths.proofs.ColumnLaws.{combination-unit, divisor_of_multiple, none_by, primitive_by}
 use Rattle.shown_widths.proofs.OneCoordinateLaws.{one_coordinate}
+use Rattle.shown_widths.proofs.QuotientLaws.{quotient_is}
 use Rattle.shown_widths.proofs.DirectionLaws.{all_coordinates, bound_in_region, thin_shown, with_coordinates, HasCoordinates}
 
 -- a multiple that is all 0
@@ -57,12 +57,6 @@ none_of_multiple g (a ∷ form) some h =
     zero_by (pos zero) e = refl
     zero_by (pos (suc n)) e = absurd (not_both (g * suc n) (mul-pos some (omega arith)) e)
     zero_by (negsuc n) e = absurd (not_both (g * suc n) (mul-pos some (omega arith)) e)
-
--- a quotient of whole numbers
-quotient_is : (n d : ℤ) → pos 0 <ℤ d → whole n /ℚ whole d ≡ ratio n d
-unfolding ratio
-quotient_is n (pos d) h = quotient-frac n d (omega linear)
-quotient_is n (negsuc d) h = absurd (omega linear)
 
 module _ (model : WholeRows) (work : ReducedRows) (frame : Substitution) (path : List Slice) (cut : Option ℤ) (limits : IsWithinLimits model) (shaped : IsShaped frame) (framed : IsFramedNode model work frame path) where
   -- the line of a column, at the coordinates of a point: the column's value there, less that at the base

@@ -1,4 +1,4 @@
-use Rattle.std.proofs.Common.{rules, ◌≡◌, ◌+◌, ◌-◌, ◌*◌, length, sym, ap, ◌∙◌, FitsSigned, to_z, of_z, arith, neg_ℤ}
+use Rattle.std.proofs.Common.{rules, ◌≡◌, ◌+◌, ◌-◌, ◌*◌, get_or, length, sym, ap, ◌∙◌, FitsSigned, to_z, of_z, arith, neg_ℤ}
 use Rattle.std.specs.Prelude.{Option, Some, option_map}
 use Rattle.std.specs.Int.{w128}
 use Rattle.std.proofs.lemmas.Int.{to_z-of_z}
@@ -26,14 +26,18 @@ returns-then-column-columns-clause-low c = λ inequality e.
 pub returns-then-slice-path-clause-high : goal.returns-then-slice-path-clause-high
 returns-then-slice-path-clause-high c = λ inequality e.
     let k = c.args.place - c.rows-2.result - c.columns-2.result in
-    let fits : FitsSigned w128 c.index-path-slice.result.beta = search rules in
-    simp to_z-of_z (rw (sym c.index-path-slice.is) (high-slice c.args.rows.now c.args.path.now inequality c.args.place k c.index-path-slice.result (omega (arith, c.if-place-rows.false, c.if-column-columns.false, c.rows.ensures.count, c.rows-2.ensures.count, c.columns.ensures.count, c.columns-2.ensures.count)) (omega (arith, c.if-slice-path.true))))
+    let beta = (get_or c.args.path.now k c.index-path-slice.result).beta in
+    let fits : FitsSigned w128 beta = search rules in
+    high-slice c.args.rows.now c.args.path.now inequality c.args.place k c.index-path-slice.result (omega (arith, c.if-place-rows.false, c.if-column-columns.false, c.rows.ensures.count, c.rows-2.ensures.count, c.columns.ensures.count, c.columns-2.ensures.count)) (omega (arith, c.if-slice-path.true))
+    ∙ ap (Some) (sym (to_z-of_z w128 beta fits))
 
 pub returns-then-slice-path-clause-low : goal.returns-then-slice-path-clause-low
 returns-then-slice-path-clause-low c = λ inequality e.
     let k = c.args.place - c.rows-2.result - c.columns-2.result in
-    let fits : FitsSigned w128 c.index-path-slice.result.beta = search rules in
-    simp to_z-of_z (rw (sym c.index-path-slice.is) (low-slice c.args.rows.now c.args.path.now inequality c.args.place k c.index-path-slice.result (omega (arith, c.if-place-rows.false, c.if-column-columns.false, c.rows.ensures.count, c.rows-2.ensures.count, c.columns.ensures.count, c.columns-2.ensures.count)) (omega (arith, c.if-slice-path.true))))
+    let beta = (get_or c.args.path.now k c.index-path-slice.result).beta in
+    let fits : FitsSigned w128 beta = search rules in
+    low-slice c.args.rows.now c.args.path.now inequality c.args.place k c.index-path-slice.result (omega (arith, c.if-place-rows.false, c.if-column-columns.false, c.rows.ensures.count, c.rows-2.ensures.count, c.columns.ensures.count, c.columns-2.ensures.count)) (omega (arith, c.if-slice-path.true))
+    ∙ ap (λ z. Some (neg_ℤ z)) (sym (to_z-of_z w128 beta fits))
 
 pub returns-then-slice-path-2-clause-high : goal.returns-then-slice-path-2-clause-high
 returns-then-slice-path-2-clause-high c = λ inequality e.
