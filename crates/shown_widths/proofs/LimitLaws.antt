@@ -1,5 +1,5 @@
 -- The limits of a node's inequalities by their numbers, and what those that a line uses come to.
-use Rattle.std.proofs.Common.{◌≡◌, ℕ, zero, suc, ◌+◌, ◌-◌, ◌*◌, ◌<◌, ◌≤◌, ℤ, pos, neg_ℤ, ◌+ℤ◌, ◌*ℤ◌, List, [], ◌∷◌, ◌++◌, length, get_or, take, map, refl, sym, ap, ap₂, ◌∙◌, subst, arith}
+use Rattle.std.proofs.Common.{◌≡◌, ℕ, suc, ◌+◌, ◌-◌, ◌*◌, ◌<◌, ℤ, neg_ℤ, ◌+ℤ◌, ◌*ℤ◌, List, [], ◌∷◌, ◌++◌, length, get_or, take, map, refl, ap, ◌∙◌, arith}
 use Rattle.std.specs.Prelude.{Option, Some, None, option_map, unwrap_or}
 use Rattle.std.proofs.lemmas.List.{take_more}
 use Rattle.exact_math.specs.IntegerRing.{linear}
@@ -9,9 +9,9 @@ use Rattle.whole_rows.specs.WholeRows.{WholeRows, row_at, bounds_at}
 use Rattle.farkas_rows.specs.declared.line.CutUse.{CutUse}
 use Rattle.farkas_rows.specs.declared.line.Use.{Use}
 use Rattle.farkas_rows.specs.declared.path.Slice.{Slice}
-use Rattle.farkas_rows.specs.Inequalities.{Inequality, at_least, at_most, cut_inequality, inequality_at}
+use Rattle.farkas_rows.specs.Inequalities.{Inequality, at_least, at_most, inequality_at}
 use Rattle.farkas_rows.specs.NumberLaws.{number-row_upper, number-row_lower, number-bound_upper, number-bound_lower, number-slice_upper, number-slice_lower, number-end, number-past}
-use Rattle.farkas_rows.specs.Refutes.{cut_inequalities, cut_times, line_of, nothing}
+use Rattle.farkas_rows.specs.Refutes.{line_of, nothing}
 use Rattle.shown_widths.specs.Limits.{cut_limit, limit_at, limit_sum}
 
 module _ (rows : WholeRows) (path : List Slice) (end : Inequality) where

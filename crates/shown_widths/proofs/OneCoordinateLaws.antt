@@ -1,14 +1,13 @@
 -- In one coordinate a primitive form is no wider than each other form.
-use Rattle.std.proofs.Common.{◌≡◌, ◌≢◌, ⊎_elim, ℕ, zero, suc, ◌*◌, ◌≤◌, ℤ, pos, negsuc, nat_abs, ◌*ℤ◌, List, [], ◌∷◌, length, refl, sym, ap, ap₂, ◌∙◌, subst, subst₂, arith}
+use Rattle.std.proofs.Common.{◌≡◌, ◌≢◌, ⊎_elim, ℕ, zero, suc, ◌*◌, ℤ, pos, negsuc, nat_abs, ◌*ℤ◌, List, [], ◌∷◌, length, refl, sym, ap, ap₂, ◌∙◌, subst, arith}
 use Rattle.std.specs.Int.{◌∣◌}
-use Rattle.std.specs.Prelude.{All}
 use Rattle.std.proofs.Math.Nat.{dvd-mul_right}
 use Rattle.std.proofs.lemmas.List.Elements.{All-nil, All-cons}
 use Rattle.exact_math.specs.IntegerRing.{linear}
 use Rattle.exact_math.specs.Ring.{integers}
 use Rattle.exact_math.specs.RingLaws as Laws
 use Rattle.exact_math.specs.RingSolver.{ring, reads}
-use Rattle.exact_math.specs.Rational.{ℚ, whole, neg_ℚ, ◌-ℚ◌, ◌*ℚ◌, ◌≤ℚ◌, ◌<ℚ◌}
+use Rattle.exact_math.specs.Rational.{ℚ, whole, neg_ℚ, ◌-ℚ◌, ◌*ℚ◌, ◌≤ℚ◌}
 use Rattle.exact_math.specs.RationalOrder.{le_of_lt, le_or_lt, le_trans}
 use Rattle.exact_math.specs.RationalRing.{rationals}
 use Rattle.exact_vectors.specs.Vectors.{scale}
@@ -16,7 +15,7 @@ use Rattle.node_point.specs.RationalPoints.{form_value}
 use Rattle.whole_vectors.specs.WholeVectorLaws.{whole_neg}
 use Rattle.form_widths.specs.FormLaws.{form_value-scale}
 use Rattle.form_widths.specs.RationalOrderLaws.{le-multiple}
-use Rattle.form_widths.specs.Widths.{IsBoundOn, IsNoWiderThan, IsNonzero, IsPrimitive}
+use Rattle.form_widths.specs.Widths.{IsNoWiderThan, IsNonzero, IsPrimitive}
 
 -- a bound on a multiple of a number and on minus that is one on the number
 le_of_factor : (c : ℤ) (d bound : ℚ) → c ≢ pos 0 → whole (pos 0) ≤ℚ bound → (whole c *ℚ d) ≤ℚ bound → (whole c *ℚ neg_ℚ d) ≤ℚ bound → d ≤ℚ bound

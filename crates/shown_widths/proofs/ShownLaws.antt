@@ -1,6 +1,6 @@
 -- Points and lines show a form to be a direction.
 use Rattle.std.proofs.Common.{◌≡◌, ⊎_elim, ℕ, zero, suc, ◌-◌, ◌*◌, ◌^◌, ◌<◌, ◌≤◌, List, [], ◌∷◌, length, get_or, ℤ, pos, negsuc, nat_abs, ◌*ℤ◌, ◌<ℤ◌, map, refl, ap, ap₂, sym, subst, subst₂, ◌∙◌, arith, mul-pos}
-use Rattle.std.specs.Prelude.{◌⊎◌, Option, All}
+use Rattle.std.specs.Prelude.{Option, All}
 use Rattle.std.specs.Int.{◌∣◌}
 use Rattle.std.proofs.Math.Nat.{le_of_dvd}
 use Rattle.std.proofs.lemmas.List.{length-map, get_or-map}
@@ -27,7 +27,7 @@ use Rattle.form_widths.specs.FormLaws.{form_value-unit}
 use Rattle.form_widths.specs.PrimitiveLaws.{primitive_nonzero}
 use Rattle.form_widths.specs.PulledLaws.{form_value-point_over}
 use Rattle.form_widths.specs.WidthLaws.{no_wider_by_multiple}
-use Rattle.form_widths.specs.Widths.{IsBoundOn, IsNoWiderThan, IsPrimitive}
+use Rattle.form_widths.specs.Widths.{IsBoundOn, IsNoWiderThan}
 use Rattle.unimodular_pair.specs.Gathering.{common_divisor}
 use Rattle.reformulate.specs.Substitutions.{IsShaped, Substitution, columns_of, dimension_of}
 use Rattle.rational_frames.specs.RationalFrames.{rational_point_of}

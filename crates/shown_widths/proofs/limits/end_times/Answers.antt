@@ -1,10 +1,9 @@
-use Rattle.std.proofs.Common.{rules, ◌≡◌, ◌==◌, true, false, ℕ, ℤ, pos, List, ◌∷◌, ◌++◌, [], length, sym, ap, ◌∙◌, subst, FitsSigned, to_z, of_z, arith, eq-eqb}
+use Rattle.std.proofs.Common.{rules, ◌≡◌, true, false, pos, List, length, sym, ap, ◌∙◌, FitsSigned, arith, eq-eqb}
 use Rattle.std.specs.Int.{w128}
 use Rattle.std.proofs.lemmas.Int.{to_z-of_z}
-use Rattle.farkas_rows.specs.declared.line.Use.{Use}
 use Rattle.farkas_rows.specs.declared.path.Slice.{Slice}
 use Rattle.form_widths.specs.EndTimesLaws.{times_of-last}
-use Rattle.form_widths.specs.NodeLines.{end_number, times_of}
+use Rattle.form_widths.specs.NodeLines.{end_number}
 use Rattle.shown_widths.proofs.limits.end_times.Goals as goal
 
 pub returns-then-last-number : goal.returns-then-last-number

@@ -1,4 +1,4 @@
-use Rattle.std.proofs.Common.{rules, ◌≡◌, ◌<◌, ◌+ℤ◌, ◌*ℤ◌, ℤ, pos, List, length, get_or, sym, ap, ◌∙◌, subst, FitsSigned, to_z, of_z}
+use Rattle.std.proofs.Common.{rules, ◌≡◌, ◌<◌, ◌+ℤ◌, ◌*ℤ◌, pos, List, length, get_or, sym, ap, ◌∙◌, subst, FitsSigned, to_z}
 use Rattle.std.specs.Int.{w128}
 use Rattle.std.specs.Prelude.{Some}
 use Rattle.std.proofs.lemmas.Int.{to_z-of_z}

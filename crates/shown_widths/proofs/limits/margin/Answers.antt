@@ -1,4 +1,4 @@
-use Rattle.std.proofs.Common.{rules, ◌≡◌, ℤ, pos, neg_ℤ, ◌<ℤ◌, List, sym, ap, ap₂, ◌∙◌, subst, FitsSigned, to_z, of_z}
+use Rattle.std.proofs.Common.{rules, ◌≡◌, pos, neg_ℤ, ◌<ℤ◌, List, sym, ap, ap₂, ◌∙◌, subst, FitsSigned}
 use Rattle.std.specs.Int.{w128}
 use Rattle.std.specs.Prelude.{Option, IfSome}
 use Rattle.std.proofs.lemmas.Int.{to_z-of_z}

@@ -1,5 +1,5 @@
-use Rattle.std.proofs.Common.{rules, ◌≡◌, ◌+◌, ◌-◌, ◌*◌, get_or, length, sym, ap, ◌∙◌, FitsSigned, to_z, of_z, arith, neg_ℤ}
-use Rattle.std.specs.Prelude.{Option, Some, option_map}
+use Rattle.std.proofs.Common.{rules, ◌+◌, ◌-◌, ◌*◌, get_or, sym, ap, ◌∙◌, FitsSigned, arith, neg_ℤ}
+use Rattle.std.specs.Prelude.{Some, option_map}
 use Rattle.std.specs.Int.{w128}
 use Rattle.std.proofs.lemmas.Int.{to_z-of_z}
 use Rattle.shown_widths.proofs.LimitLaws.{high-row, low-row, high-column, low-column, high-slice, low-slice, high-end, none-past}
