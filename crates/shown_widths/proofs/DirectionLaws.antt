@@ -37,7 +37,7 @@ use Rattle.presolve_map.specs.Selections.{select}
 use Rattle.farkas_lift.specs.NodeEqualities.{work_form}
 use Rattle.farkas_lift.specs.NodeSides.{inequality_of, node_sides}
 use Rattle.farkas_lift.specs.NodeSystem.{cut_of, node_system, pulled}
-use Rattle.node_regions.specs.RegionPoints.{IsFramedNode}
+use Rattle.node_lines.specs.NodeSystems.{IsFramedNode}
 use Rattle.node_regions.specs.NodePointLaws.{inward, outward, values, work_form-is, rows_met, met_by_rows}
 use Rattle.node_regions.specs.NodeRegions.{IsInNode}
 use Rattle.shown_widths.specs.Points.{work_fractions}

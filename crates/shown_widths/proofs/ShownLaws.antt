@@ -33,7 +33,7 @@ use Rattle.reformulate.specs.Substitutions.{IsShaped, Substitution, columns_of, 
 use Rattle.rational_frames.specs.RationalFrames.{rational_point_of}
 use Rattle.presolve_map.specs.ReducedRows.{ReducedRows}
 use Rattle.farkas_lift.specs.NodeEqualities.{work_form}
-use Rattle.node_regions.specs.RegionPoints.{IsFramedNode}
+use Rattle.node_lines.specs.NodeSystems.{IsFramedNode}
 use Rattle.node_regions.specs.NodeRegions.{IsInNode}
 use Rattle.shown_widths.specs.Columns.{column_value, AreApart, IsOneOf, IsShownWide}
 use Rattle.shown_widths.specs.Points.{work_fractions}

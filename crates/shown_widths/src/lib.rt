@@ -7,11 +7,9 @@
 mod columns;
 mod direction;
 mod limits;
-mod node;
 mod point;
 mod room;
 mod side;
 mod width;
 
 pub use direction::is_direction;
-pub use node::Node;

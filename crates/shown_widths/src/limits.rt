@@ -1,5 +1,5 @@
 //! How far a line goes past the end of a form.
-ghost use Rattle.std.specs.Prelude.{◌≡◌, ◌+◌, ◌*◌, pos, neg_ℤ, ◌-ℤ◌, ◌*ℤ◌, Some, option_map, IfSome};
+ghost use Rattle.std.specs.Prelude.{◌≡◌, ◌+◌, ◌*◌, neg_ℤ, Some, option_map, IfSome};
 ghost use Rattle.farkas_rows.specs.Inequalities.{Inequality};
 ghost use Rattle.farkas_rows.specs.Refutes.{Refutes};
 ghost use Rattle.form_widths.specs.NodeLines.{end_number, margin, times_of};

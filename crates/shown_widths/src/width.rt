@@ -1,14 +1,13 @@
 //! The width of the form of a split, read off the lines of its ends.
-ghost use Rattle.std.specs.Prelude.{IfSome};
+ghost use Rattle.std.specs.Prelude.{length, IfSome};
 ghost use Rattle.farkas_rows.specs.Refutes.{HasForms};
 ghost use Rattle.form_widths.specs.Widths.{IsBoundOn};
 ghost use Rattle.node_point.specs.RationalPoints.{IsRationalPoint};
 ghost use Rattle.proof_tree.specs.Moves.{SplitsUnder};
-ghost use Rattle.std.specs.Prelude.{length};
 
 use crate::limits::margin;
-use crate::node::Node;
 use frac128::Frac;
+use node_lines::Node;
 use proof_tree::Cut;
 
 /// The width of the form of a split at a node, as the lines of the two ends bound it; none where a line does not use its end, or
