@@ -120,12 +120,20 @@ impl Candidates {
         Ok(())
     }
 
+    /// Whether a form of this width is at most as wide as each free column that was measured.
+    fn is_thin(&self, width: Option<Frac>) -> bool {
+        match (self.limit, width) {
+            (Some(limit), Some(width)) => width <= limit,
+            (limit, _) => limit.is_none(),
+        }
+    }
+
     /// Takes a form, where it is at most as wide as each free column that was measured and none has fewer slices.
     pub(crate) fn take_thin(&mut self, alloc: Global, candidate: Candidate) -> Result<(), Halt> {
-        match (self.limit, candidate.width) {
-            (Some(limit), Some(width)) if width <= limit => self.take(alloc, candidate),
-            (None, _) => self.take(alloc, candidate),
-            _ => Ok(()),
+        if self.is_thin(candidate.width) {
+            self.take(alloc, candidate)
+        } else {
+            Ok(())
         }
     }
 
