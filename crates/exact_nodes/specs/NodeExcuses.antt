@@ -90,11 +90,13 @@ pub record IsHeavyDirection (rows : WholeRows) (frame : Substitution) (work : Re
   pub chosen : IsChosenDirection p (rows_in frame.to_work.lines) form
   pub same : IsModelForm rows work frame form model_form
 
--- the least or the greatest whole value of the form at points of the node leaves `i128`
+-- The least whole value of the form at points of the node leaves `i128`; or the greatest one does, or the next whole number, from
+-- which on the form has no value.
 abbrev pub EndLeaves : Polytope → List ℤ → ℤ → Type 0
 EndLeaves p form constant =
     ((point : List ℚ) × (value : ℚ) × (weights : List ℚ) × IsLeastAt p (wholes form) point value weights × ¬ (FitsSigned w128 (ceil value +ℤ constant)))
-    ⊎ ((point : List ℚ) × (value : ℚ) × (weights : List ℚ) × IsLeastAt p (wholes (negate integers form)) point (neg_ℚ value) weights × ¬ (FitsSigned w128 (floor value +ℤ constant)))
+    ⊎ ((point : List ℚ) × (value : ℚ) × (weights : List ℚ) × IsLeastAt p (wholes (negate integers form)) point (neg_ℚ value) weights
+    × ¬ (FitsSigned w128 (floor value +ℤ constant) × FitsSigned w128 ((floor value +ℤ constant) +ℤ pos 1)))
 
 -- each entry of d V stays in `i128`, and its value at x0, with each product and each sum in index order
 abbrev pub FormStays : Substitution → List ℤ → Type 0
