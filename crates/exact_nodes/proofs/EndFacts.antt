@@ -1,6 +1,7 @@
 -- The ends of a direction, as inequalities of the model.
-use Rattle.std.proofs.Common.{◌≡◌, ⊎_elim, ℕ, List, [], ◌∷◌, ℤ, pos, neg_ℤ, ◌+ℤ◌, ◌-ℤ◌, ◌≤ℤ◌, refl, sym, ap, subst, ◌∙◌}
-use Rattle.std.specs.Prelude.{Option, Some}
+use Rattle.std.proofs.Common.{◌≡◌, ⊎_elim, inl, inr, ℕ, List, [], ◌∷◌, ℤ, pos, neg_ℤ, ◌+ℤ◌, ◌-ℤ◌, ◌≤ℤ◌, refl, sym, ap, subst, ◌∙◌}
+use Rattle.std.specs.Prelude.{Option, Some, FitsSigned}
+use Rattle.std.specs.Int.{w128}
 use Rattle.std.proofs.lemmas.Slice.Zip.{AllZip-long}
 use Rattle.exact_math.specs.IntegerLaws.{neg_neg}
 use Rattle.exact_math.specs.IntegerRing.{linear}
@@ -19,13 +20,14 @@ use Rattle.form_widths.specs.RationalOrderLaws.{le_by}
 use Rattle.lp_dict.specs.Systems.{wholes}
 use Rattle.lp_solve.specs.declared.answer.Solved.TheVariants.{Least}
 use Rattle.norm_gauge.specs.Gauges.{IsLeastAt}
-use Rattle.norm_gauge.specs.Widths.{Has, Polytope}
+use Rattle.norm_gauge.specs.Widths.{Polytope}
 use Rattle.node_point.specs.RationalPoints.{form_value}
 use Rattle.node_lines.specs.NodeSystems.{IsPastEnd}
 use Rattle.node_regions.specs.NodeRegions.{node_polytope}
+use Rattle.spaces.specs.Tables.{rows_in}
 use Rattle.reformulate.specs.Substitutions.{Substitution}
 use Rattle.presolve_map.specs.ReducedRows.{ReducedRows}
-use Rattle.exact_nodes.specs.NodeExcuses.{IsModelForm, IsRefutedEnd, back_form}
+use Rattle.exact_nodes.specs.NodeExcuses.{IsChosenDirection, IsModelForm, IsRefutedEnd, IsWideMap, back_form}
 use Rattle.exact_nodes.specs.Regions.{IsFirstValue, IsLastValue, IsOptimum}
 use Rattle.exact_nodes.proofs.NodeFacts.{over_kept}
 use Rattle.exact_nodes.proofs.OppositeForms.{form_value-negate, opposite_constant, opposite_form}
@@ -98,6 +100,31 @@ last_value p form pivots value multipliers constant last optimum e =
           (subst (λ (t : ℚ). t ≤ℚ neg_ℚ value) (ap neg_ℚ (form_value-negate form y) ∙ Laws.neg_neg rationals (form_value form y)) (neg_le value (form_value (negate integers form) y) (optimum.lowest y h)));
       value = e ∙ ap (λ (t : ℚ). floor t +ℤ constant) at_point;
     }
+
+-- ---- ends that leave the range
+
+module _ (best : Option ℤ) (work : ReducedRows) (frame : Substitution) (p : Polytope) (form : List ℤ) (constant : ℤ) (c : constant ≡ dot integers (back_form frame form) frame.to_work.base) (chosen : IsChosenDirection p (rows_in frame.to_work.lines) form) (value : ℚ) where
+  pub wide_lower : (pivots : List (ℕ × ℕ)) (multipliers : List ℚ) → IsOptimum p form pivots value multipliers → ¬ (FitsSigned w128 (ceil value +ℤ constant)) → IsWideMap best frame work p form
+  wide_lower pivots multipliers optimum leaves = inr (chosen, inr (inl (optimum.point, value, multipliers, optimum.least, subst (λ (z : ℤ). ¬ (FitsSigned w128 (ceil value +ℤ z))) c leaves)))
+
+  pub wide_upper : (pivots : List (ℕ × ℕ)) (multipliers : List ℚ) → IsOptimum p (negate integers form) pivots value multipliers
+      → ¬ (FitsSigned w128 (floor (neg_ℚ value) +ℤ constant) × FitsSigned w128 ((floor (neg_ℚ value) +ℤ constant) +ℤ pos 1)) → IsWideMap best frame work p form
+  wide_upper pivots multipliers optimum leaves =
+      inr
+      (
+        chosen,
+        inr
+        (
+          inr
+          (
+            optimum.point,
+            neg_ℚ value,
+            multipliers,
+            subst (λ (q : ℚ). IsLeastAt p (wholes (negate integers form)) optimum.point q multipliers) (sym (Laws.neg_neg rationals value)) optimum.least,
+            subst (λ (z : ℤ). ¬ (FitsSigned w128 (floor (neg_ℚ value) +ℤ z) × FitsSigned w128 ((floor (neg_ℚ value) +ℤ z) +ℤ pos 1))) c leaves
+          )
+        )
+      )
 
 -- ---- their lines
 

@@ -1,7 +1,5 @@
 -- Forms with the other sign.
-use Rattle.std.proofs.Common.{◌≡◌, ℕ, zero, suc, List, [], ◌∷◌, length, map, get_or, ℤ, pos, neg_ℤ, ◌+ℤ◌, ◌*ℤ◌, refl, sym, ap, ap₂, ◌∙◌}
-use Rattle.std.specs.List.{AllZip}
-use Rattle.exact_math.specs.IntegerRing.{linear}
+use Rattle.std.proofs.Common.{◌≡◌, ℕ, zero, suc, List, [], ◌∷◌, length, map, get_or, ℤ, pos, neg_ℤ, refl, sym, ap, ap₂, ◌∙◌}
 use Rattle.exact_math.specs.IntegerLaws as Z
 use Rattle.exact_math.specs.Ring.{integers}
 use Rattle.exact_math.specs.RingLaws as Laws
@@ -19,7 +17,7 @@ use Rattle.presolve_map.specs.ReducedRows.{ReducedRows}
 use Rattle.farkas_lift.specs.NodeEqualities.{work_form}
 use Rattle.farkas_lift.proofs.JoinedLaws.{joined-map, joined-same}
 use Rattle.farkas_lift.proofs.NodeValues.{negate-at}
-use Rattle.node_regions.specs.NodeFrames.{IsKeptFactor, IsKeptForm}
+use Rattle.node_regions.specs.NodeFrames.{IsKeptForm}
 use Rattle.exact_nodes.specs.NodeExcuses.{IsModelForm, back_form}
 
 -- ---- combinations

@@ -1,7 +1,6 @@
 -- Why a node with a frame is split by single columns.
-use Rattle.std.specs.Prelude.{◌≡◌, ◌⊎◌, ℕ, ◌<◌, ◌^◌, ℤ, pos, ◌+ℤ◌, ◌-ℤ◌, List, [], All, Option, Some, None, FitsSigned}
+use Rattle.std.specs.Prelude.{◌≡◌, ◌⊎◌, ℕ, ◌<◌, ◌^◌, ℤ, pos, ◌+ℤ◌, ◌-ℤ◌, List, [], Option, Some, None, FitsSigned}
 use Rattle.exact_math.specs.Rational.{ℚ, whole, floor, ceil, neg_ℚ, ◌+ℚ◌}
-use Rattle.exact_math.specs.RationalRing.{rationals}
 use Rattle.exact_math.specs.Ring.{integers}
 use Rattle.exact_vectors.specs.Matrices.{combination}
 use Rattle.exact_vectors.specs.Range.{StaysInRange}
@@ -22,7 +21,7 @@ use Rattle.norm_gauge.specs.Widths.{Has, Polytope}
 use Rattle.generalised_reduce.specs.Halts.{ThinStopIs}
 use Rattle.generalised_reduce.specs.declared.answer.ThinStop.TheVariants as thin_stops
 use Rattle.thin_forms.specs.Candidates.{IsCandidate}
-use Rattle.reformulate.specs.Substitutions.{Substitution, columns_of, dimension_of}
+use Rattle.reformulate.specs.Substitutions.{Substitution, columns_of}
 use Rattle.presolve_map.specs.ReducedRows.{ReducedRows}
 use Rattle.farkas_lift.specs.NodeEqualities.{work_form}
 use Rattle.farkas_lift.specs.NodeSystem.{SystemStays}
