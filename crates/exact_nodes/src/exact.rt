@@ -30,6 +30,7 @@ use proof_tree::{Cut, Mark};
 use sequence::NoMemory;
 use spaces::{Affine, Form, Kernel, Original, Vect, Work};
 use std::alloc::Global;
+use thin_columns::thin_column;
 use thin_forms::{ThinForm, ThinFormStop, thinnest};
 
 /// The move of a node in the exact way.
@@ -55,7 +56,11 @@ fn direction<'a>(alloc: Global, node: &Node<'a>, system: &System) -> Result<Form
     ensures narrow { IfOk result (All IsNarrow) }
     ensures halt { IfErr result (HaltsSo node.now.model.now node.now.work.now node.now.frame.now node.now.path.now node.now.cut) }
 {
-    match thinnest(alloc, system, node.frame.to_work().lines()) {
+    let lines = node.frame.to_work().lines();
+    if let Some(form) = thin_column(alloc, system, lines)? {
+        return Ok(form);
+    }
+    match thinnest(alloc, system, lines) {
         Ok(
             ThinForm {
                 form,
