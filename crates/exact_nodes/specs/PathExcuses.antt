@@ -1,6 +1,6 @@
 -- Why the nodes of a path are split by single columns.
 use Rattle.std.specs.Prelude.{◌≡◌, ◌⊎◌, ◌<◌, ◌^◌, ℤ, pos, ◌<ℤ◌, List, [], ◌∷◌, ◌++◌, length, false, Option, Some, None, FitsSigned}
-use Rattle.exact_math.specs.Rational.{ℚ, whole}
+use Rattle.exact_math.specs.Rational.{whole}
 use Rattle.exact_math.specs.RationalRing.{rationals}
 use Rattle.exact_math.specs.Ring.{integers}
 use Rattle.exact_vectors.specs.Vectors.{negate, zeros}
