@@ -110,20 +110,18 @@ module _ (best : Option ℤ) (work : ReducedRows) (frame : Substitution) (p : Po
   pub wide_upper : (pivots : List (ℕ × ℕ)) (multipliers : List ℚ) → IsOptimum p (negate integers form) pivots value multipliers
       → ¬ (FitsSigned w128 (floor (neg_ℚ value) +ℤ constant) × FitsSigned w128 ((floor (neg_ℚ value) +ℤ constant) +ℤ pos 1)) → IsWideMap best frame work p form
   wide_upper pivots multipliers optimum leaves =
-      inr
-      (
+      inr (
         chosen,
         inr
-        (
-          inr
-          (
-            optimum.point,
-            neg_ℚ value,
-            multipliers,
-            subst (λ (q : ℚ). IsLeastAt p (wholes (negate integers form)) optimum.point q multipliers) (sym (Laws.neg_neg rationals value)) optimum.least,
-            subst (λ (z : ℤ). ¬ (FitsSigned w128 (floor (neg_ℚ value) +ℤ z) × FitsSigned w128 ((floor (neg_ℚ value) +ℤ z) +ℤ pos 1))) c leaves
-          )
-        )
+            (
+            inr (
+              optimum.point,
+              neg_ℚ value,
+              multipliers,
+              subst (λ (q : ℚ). IsLeastAt p (wholes (negate integers form)) optimum.point q multipliers) (sym (Laws.neg_neg rationals value)) optimum.least,
+              subst (λ (z : ℤ). ¬ (FitsSigned w128 (floor (neg_ℚ value) +ℤ z) × FitsSigned w128 ((floor (neg_ℚ value) +ℤ z) +ℤ pos 1))) c leaves,
+            )
+            ),
       )
 
 -- ---- their lines

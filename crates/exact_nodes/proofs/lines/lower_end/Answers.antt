@@ -64,8 +64,8 @@ returns-in-Err-clause-halt c =
     let shown = c.in_ok-optimum.ensures.optimum in
     let wide = rw c.items.ensures at c.in-Err.ensures.wide in
     let heavy = λ (e : c.in-Err.halt ≡ halts.Heavy).
-        subst₂ (λ (w : List ℚ) (z : ℤ). IsHeavyLine c.args.node.now.model.now c.args.node.now.work.now c.args.node.now.frame.now c.args.node.now.path.now (Some (below c.args.moved.now.form z)) c.args.node.now.cut w) c.items.ensures (to_z-of_z lo_fits)
-        (c.in-Err.ensures.heavy (ap (λ (h : LineHalt). Err h) e)) in
+    subst₂ (λ (w : List ℚ) (z : ℤ). IsHeavyLine c.args.node.now.model.now c.args.node.now.work.now c.args.node.now.frame.now c.args.node.now.path.now (Some (below c.args.moved.now.form z)) c.args.node.now.cut w) c.items.ensures (to_z-of_z lo_fits)
+    (c.in-Err.ensures.heavy (ap (λ (h : LineHalt). Err h) e)) in
     subst (HaltsSo c.args.node.now.model.now c.args.node.now.work.now c.args.node.now.frame.now c.args.node.now.path.now c.args.node.now.cut) (sym c.no_line.ensures)
     (line_halts c.args.node.now.model.now c.args.node.now.path.now c.args.node.now.cut c.args.node.now.frame.now c.args.node.now.work.now optimum.pivots c.args.form.now (Least shown.point optimum.value optimum.multipliers) (Some (below c.args.moved.now.form c.in-Some.lo)) c.in-Err.halt
     (inr (inl c.requires.chosen.1)) shown.ends

@@ -2,11 +2,10 @@ use Rattle.std.proofs.Common.{rules, ◌≡◌, ◌∙◌, ◌+ℤ◌, ◌-ℤ�
 use Rattle.std.specs.Prelude.{Some}
 use Rattle.std.specs.Int.{w128}
 use Rattle.exact_math.specs.IntegerRing.{linear}
-use Rattle.exact_math.specs.Rational.{ℚ, floor, neg_ℚ}
+use Rattle.exact_math.specs.Rational.{ℚ, floor}
 use Rattle.exact_math.specs.Ring.{integers}
 use Rattle.exact_vectors.specs.Vectors.{negate}
 use Rattle.farkas_rows.specs.Inequalities.{above}
-use Rattle.farkas_rows.specs.declared.line.Line.{Line}
 use Rattle.lp_solve.specs.declared.answer.Solved.TheVariants.{Least}
 use Rattle.node_lines.specs.NodeLines.{IsHeavyLine}
 use Rattle.node_lines.specs.NodeSystems.{IsPastEnd}
@@ -103,8 +102,8 @@ returns-clause-halt c =
     let greatest = c.floor.ensures ∙ ap floor c.neg.ensures in
     let wide = rw c.items.ensures at c.in-Err.ensures.wide in
     let heavy = λ (e : c.in-Err.halt ≡ halts.Heavy).
-        subst₂ (λ (w : List ℚ) (z : ℤ). IsHeavyLine c.args.node.now.model.now c.args.node.now.work.now c.args.node.now.frame.now c.args.node.now.path.now (Some (above c.args.moved.now.form z)) c.args.node.now.cut w) c.items.ensures (to_z-of_z from_fits)
-        (c.in-Err.ensures.heavy (ap (λ (h : LineHalt). Err h) e)) in
+    subst₂ (λ (w : List ℚ) (z : ℤ). IsHeavyLine c.args.node.now.model.now c.args.node.now.work.now c.args.node.now.frame.now c.args.node.now.path.now (Some (above c.args.moved.now.form z)) c.args.node.now.cut w) c.items.ensures (to_z-of_z from_fits)
+    (c.in-Err.ensures.heavy (ap (λ (h : LineHalt). Err h) e)) in
     subst (HaltsSo c.args.node.now.model.now c.args.node.now.work.now c.args.node.now.frame.now c.args.node.now.path.now c.args.node.now.cut) (sym c.no_line.ensures)
     (line_halts c.args.node.now.model.now c.args.node.now.path.now c.args.node.now.cut c.args.node.now.frame.now c.args.node.now.work.now optimum.pivots (negate integers c.args.form.now) (Least shown.point optimum.value optimum.multipliers) (Some (above c.args.moved.now.form c.in-Some.from)) c.in-Err.halt
     (inr (inr (c.args.form.now, c.requires.chosen.1, refl))) shown.ends
