@@ -1,5 +1,5 @@
 -- Points at which the inequalities have slack have a mean with room about it, so that no form is thinner than twice the room.
-use Rattle.std.proofs.Common.{◌≡◌, ◌⊎◌, inl, inr, ⊎_elim, ℕ, zero, suc, ◌*◌, ◌<◌, ◌≤◌, ℤ, pos, nat_abs, ◌*ℤ◌, ◌≤ℤ◌, List, [], ◌∷◌, length, get_or, map, refl, sym, ap, ◌∙◌, subst, subst₂, arith, mul-pos}
+use Rattle.std.proofs.Common.{◌≡◌, ◌⊎◌, inl, inr, ⊎_elim, ℕ, zero, suc, ◌*◌, ◌<◌, ℤ, pos, nat_abs, ◌*ℤ◌, ◌≤ℤ◌, List, [], ◌∷◌, length, get_or, map, refl, sym, ap, ◌∙◌, subst, arith, mul-pos}
 use Rattle.std.specs.Prelude.{All}
 use Rattle.std.proofs.lemmas.Bool.{cases_eq}
 use Rattle.std.proofs.lemmas.Int.{ints}
@@ -15,11 +15,11 @@ use Rattle.exact_vectors.specs.Vectors.{sum}
 use Rattle.farkas_rows.specs.Inequalities.{Inequality}
 use Rattle.form_widths.specs.Inequalities.{IsMetAt, IsSolution, slack}
 use Rattle.form_widths.specs.MeanLaws.{length-mean, mean_step}
-use Rattle.form_widths.specs.Means.{LeavesStep, mean, room_of}
+use Rattle.form_widths.specs.Means.{LeavesStep, mean}
 use Rattle.form_widths.specs.RationalOrderLaws.{le_by, le_of_equal}
 use Rattle.form_widths.specs.WidthLaws.{room_bounds_width}
 use Rattle.form_widths.specs.Widths.{IsBoundOn, IsNonzero}
-use Rattle.thin_columns.specs.Sizes.{greatest_size, one_if_some, sloping}
+use Rattle.thin_columns.specs.Sizes.{greatest_size, sloping}
 use Rattle.thin_columns.specs.Steps.{AllowsStep}
 use Rattle.thin_columns.proofs.SizeSteps.{none_sloping, one_of_none, one_of_some, size_most}
 
@@ -88,7 +88,7 @@ gather_more region step inequality inequalities here rest = ⊎_elim flat steep 
       count = omega (arith, rest.count, one_of_some (greatest_size inequality.factors) some);
       inside = All-cons region here.point rest.points here.inside rest.inside;
       shown = All-cons (IsShown (here.point ∷ rest.points) step) inequality inequalities (inr (record { place = 0; there = omega arith; enough = here.enough }))
-      (All-weaker (IsShown rest.points step) (IsShown (here.point ∷ rest.points) step) (shown-more here.point rest.points step) inequalities rest.shown);
+          (All-weaker (IsShown rest.points step) (IsShown (here.point ∷ rest.points) step) (shown-more here.point rest.points step) inequalities rest.shown);
     }
 
 gather : (region : List ℚ → Type 0) (step : ℚ) (inequalities : List Inequality) → All (AllowsStep region step) inequalities → Gathered region step inequalities
@@ -107,8 +107,8 @@ numerator : (rho : ℚ) → whole (pos 0) ≤ℚ rho → Numerator rho
 numerator rho h = record {
   size = nat_abs rho.num;
   is =
-  ap whole (sign rho.num (num_nonneg rho h)) ∙ whole-frac rho.num ∙ same_frac rho.num (pos rho.den *ℤ rho.num) 1 (1 * rho.den) (omega arith) (omega (arith, den_pos rho)) (omega linear)
-  ∙ sym (frac-mul (pos rho.den) rho.num 1 rho.den (omega arith) (den_pos rho)) ∙ sym (ap (λ q. q *ℚ frac rho.num rho.den) (whole-frac (pos rho.den))) ∙ ap (λ q. whole (pos rho.den) *ℚ q) (frac-self rho);
+      ap whole (sign rho.num (num_nonneg rho h)) ∙ whole-frac rho.num ∙ same_frac rho.num (pos rho.den *ℤ rho.num) 1 (1 * rho.den) (omega arith) (omega (arith, den_pos rho)) (omega linear)
+      ∙ sym (frac-mul (pos rho.den) rho.num 1 rho.den (omega arith) (den_pos rho)) ∙ sym (ap (λ q. q *ℚ frac rho.num rho.den) (whole-frac (pos rho.den))) ∙ ap (λ q. whole (pos rho.den) *ℚ q) (frac-self rho);
 }
   where
     sign : (z : ℤ) → pos 0 ≤ℤ z → pos (nat_abs z) ≡ z

@@ -41,10 +41,11 @@ sloping_more rows i lt = ap sloping (take_more rows i [] lt) ∙ sloping-append 
 pub sloping_all : (rows : List (List ℤ)) (i : ℕ) → length rows ≤ i → sloping (take i rows) ≡ sloping rows
 sloping_all rows i h = ap sloping (take_all i rows h)
 
--- no more rows than there are
-pub sloping_within : (rows : List (List ℤ)) → sloping rows ≤ length rows
-sloping_within [] = omega arith
-sloping_within (row ∷ rows) = omega (arith, sloping_within rows, one (greatest_size row))
+-- no more rows than were taken
+pub sloping_few : (rows : List (List ℤ)) (i : ℕ) → sloping (take i rows) ≤ i
+sloping_few rows zero = omega arith
+sloping_few [] (suc i) = omega arith
+sloping_few (row ∷ rows) (suc i) = omega (arith, sloping_few rows i, one (greatest_size row))
   where
     one : (n : ℕ) → one_if_some n ≤ 1
     one zero = omega arith

@@ -26,8 +26,8 @@ step_is_of r count power width room step some most nonneg room_is step_is = reco
   not_negative = room_nonneg;
   step_is = step_is;
   within =
-  subst₂ ◌≤ℚ◌ (regroup room (whole (pos power)) ∙ ap (λ q. room *ℚ q) (sym (whole_mul (pos 2) (pos power))) ∙ back) (other room (whole (pos (4 ^ (r - 1)))))
-  (mul_le (whole (pos 2) *ℚ room) (whole (pos power)) (whole (pos (4 ^ (r - 1)))) (mul_nonneg (whole (pos 2)) room (whole_le (pos 0) (pos 2) (omega linear)) room_nonneg) (whole_le (pos power) (pos (4 ^ (r - 1))) (at_most power (4 ^ (r - 1)) most)));
+      subst₂ ◌≤ℚ◌ (regroup room (whole (pos power)) ∙ ap (λ q. room *ℚ q) (sym (whole_mul (pos 2) (pos power))) ∙ back) (other room (whole (pos (4 ^ (r - 1)))))
+      (mul_le (whole (pos 2) *ℚ room) (whole (pos power)) (whole (pos (4 ^ (r - 1)))) (mul_nonneg (whole (pos 2)) room (whole_le (pos 0) (pos 2) (omega linear)) room_nonneg) (whole_le (pos power) (pos (4 ^ (r - 1))) (at_most power (4 ^ (r - 1)) most)));
 }
   where
     at_most : (a b : ℕ) → a ≤ b → pos a ≤ℤ pos b

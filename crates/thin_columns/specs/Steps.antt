@@ -1,5 +1,5 @@
 -- What the slacks of the inequalities show: how far each coordinate of a point may move, and so how wide each form is.
-use Rattle.std.specs.Prelude.{◌≡◌, ℕ, ◌-◌, ◌^◌, ◌<◌, ℤ, pos, List, length, get_or}
+use Rattle.std.specs.Prelude.{◌≡◌, ℕ, ◌-◌, ◌^◌, ℤ, pos, List, length, get_or}
 use Rattle.exact_math.specs.Rational.{ℚ, whole, ◌*ℚ◌, ◌≤ℚ◌}
 use Rattle.farkas_rows.specs.Inequalities.{Inequality, at_most}
 use Rattle.form_widths.specs.Inequalities.{slack}

@@ -70,11 +70,7 @@ fn step_of(dimension: usize, count: usize, width: &Frac) -> Result<Frac, Wide>
 }
 
 // The form of a row.
-fn form_of_row(
-    alloc: Global,
-    rows: &Grid<Kernel, i128>,
-    i: usize,
-) -> Result<Form<Kernel>, NoMemory>
+fn form_of_row(alloc: Global, rows: &Grid<Kernel, i128>, i: usize) -> Result<Form<Kernel>, NoMemory>
     requires { i < rows.now.rows }
     ensures row { IfOk result (λ form. form ≡ row_at rows.now i) }
     ensures width { IfOk result (λ form. length form ≡ rows.now.width) }
@@ -102,12 +98,7 @@ fn greatest_slack(alloc: Global, system: &System, i: usize) -> Result<Frac, Colu
 }
 
 // Whether inequality `i` allows the step.
-fn row_allows(
-    alloc: Global,
-    system: &System,
-    step: &Frac,
-    i: usize,
-) -> Result<bool, ColumnStop>
+fn row_allows(alloc: Global, system: &System, step: &Frac, i: usize) -> Result<bool, ColumnStop>
     requires ready { IsReady system.now.rows system.now.limits }
     requires inside { i < system.now.rows.rows }
     ensures { IfOk result (λ shown. IsTrue shown → RowAllows system.now.rows system.now.limits step.now i) }
@@ -148,5 +139,6 @@ pub(crate) fn is_below_forms(
 {
     let count = sloping_rows(&system.rows);
     let step = step_of(system.rows.width(), count, width)?;
-    rows_allow(alloc, system, &step)
+    let shown = rows_allow(alloc, system, &step)?;
+    Ok(shown)
 }

@@ -1,4 +1,4 @@
-use Rattle.std.proofs.Common.{◌≡◌, ◌≤◌, ◌-◌, ◌^◌, ◌<◌, ℕ, refl, sym, subst, arith}
+use Rattle.std.proofs.Common.{◌≤◌, ◌-◌, ◌^◌, ℕ, arith}
 use Rattle.std.proofs.Math.Nat.{pow-le-pow_right}
 use Rattle.thin_columns.proofs.slacks.power_of_four.Goals as goal
 
