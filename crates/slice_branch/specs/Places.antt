@@ -80,24 +80,6 @@ IsSlicePlace rows node path (Settled move) = ⊥
 IsSlicePlace rows node path (Framed child) = (child.depth ≡ node.depth + 1) × IsNodeFrame rows path child.frame × (dimension_of child.frame + 1 ≡ dimension_of node.frame)
 IsSlicePlace rows node path (Plain depth) = (depth ≡ node.depth + 1) × ((best : Option ℤ) → IsExcusedPath rows path best)
 
--- the place is of the same kind, and has the same move, or frame and depth
-abbrev pub IsKept : Place → Place → Type 0
-IsKept (Settled move) (Settled other) = other ≡ move
-IsKept (Settled move) (Framed node) = ⊥
-IsKept (Settled move) (Plain depth) = ⊥
-IsKept (Framed node) (Settled move) = ⊥
-IsKept (Framed node) (Framed other) = (other.depth ≡ node.depth) × (other.frame ≡ node.frame)
-IsKept (Framed node) (Plain depth) = ⊥
-IsKept (Plain depth) (Settled move) = ⊥
-IsKept (Plain depth) (Framed node) = ⊥
-IsKept (Plain depth) (Plain other) = other ≡ depth
-
--- the node is split by single columns from now on, where it was not yet
-abbrev pub plain_from : ℕ → Place → Place
-plain_from depth (Settled move) = Plain depth
-plain_from depth (Framed node) = Plain depth
-plain_from depth (Plain other) = Plain other
-
 -- a place stands for a node under each lower best value
 pub stands_under : (rows : WholeRows) (place : Place) (path : List Slice) (now before : Option ℤ) → IsNoHigher now before → StandsFor rows place path before → StandsFor rows place path now
 stands_under rows (Settled move) path now before lower here = here

@@ -1,5 +1,5 @@
 //! The brancher of the search by reformulation.
-ghost use Rattle.std.specs.Prelude.{◌≡◌, ◌≤◌, ◌^◌, ◌+◌, ◌+ℤ◌, ◌≤ℤ◌, ◌<ℤ◌, ℤ, pos, List, [], length, Option, None, IfOk, IsSome, false};
+ghost use Rattle.std.specs.Prelude.{◌≡◌, ◌≤◌, ◌^◌, ◌+◌, ◌+ℤ◌, ◌≤ℤ◌, ◌<ℤ◌, ℤ, pos, List, [], length, Option, None, IfOk};
 ghost use Rattle.farkas_rows.specs.Refutes.{HasForms};
 ghost use Rattle.node_slices.specs.SliceNodes.{IsSlicedNode};
 ghost use Rattle.presolve_map.specs.Roots.{IsClosedRoot};
@@ -8,7 +8,7 @@ ghost use Rattle.proof_tree.specs.Moves.{widest, Branches};
 ghost use Rattle.proof_tree.specs.Trees.{on_slice};
 ghost use Rattle.slice_branch.specs.declared.place.Place.TheVariants.{Framed};
 ghost use Rattle.slice_branch.specs.Framed.{IsAllowed, IsTried};
-ghost use Rattle.slice_branch.specs.Places.{height_of, is_plain_place, plain_from, IsFramedPlace, IsKept, IsRootPlace, IsSlicePlace, StandsFor};
+ghost use Rattle.slice_branch.specs.Places.{height_of, is_plain_place, IsFramedPlace, IsRootPlace, IsSlicePlace, StandsFor};
 ghost use Rattle.slice_branch.specs.Roots.{IsRootOf, IsRootOf-prop};
 
 use crate::check::widest_of;
@@ -103,27 +103,6 @@ impl<'a> SliceBrancher<'a> {
 }
 
 impl SliceBrancher<'_> {
-    /// The move of a place that is not split by single columns, or none, and then it is to be. The place stays what it is.
-    fn thin_move(
-        &self,
-        place: &mut Place,
-        path: &Path,
-        best: Option<i128>,
-    ) -> Result<Option<Move>, NoMemory>
-        requires stands { StandsFor self.now.rows.now place.old path.now best }
-        requires forms { HasForms (length self.now.rows.now.box) path.now }
-        requires small { widest self.now.rows.now.box ≤ 2 ^ 97 }
-        ensures kept { IsKept place.old place.new }
-        ensures thin { IfOk result (λ tried. IsSome tried → is_plain_place place.new ≡ false) }
-        ensures tried { IfOk result (IsTried self.now.rows.now path.now best) }
-    {
-        match place {
-            Place::Settled(settled) => Ok(Some(settled_move(self.alloc, settled)?)),
-            Place::Framed(node) => self.node_move(node, path, best),
-            Place::Plain(_) => Ok(None),
-        }
-    }
-
     /// The move of a node with a frame: in the fast way, or else in the exact one.
     fn node_move(
         &self,
@@ -167,15 +146,6 @@ impl SliceBrancher<'_> {
     }
 }
 
-/// Has the node split by single columns from now on, where it was not yet; so many slices lead to it.
-fn turn_plain(place: &mut Place, depth: usize)
-    ensures { place.new ≡ plain_from depth place.old }
-{
-    if !matches!(place, Place::Plain(_)) {
-        *place = Place::Plain(depth);
-    }
-}
-
 impl Brancher for SliceBrancher<'_> {
     type Place = Place;
 
@@ -201,11 +171,17 @@ impl Brancher for SliceBrancher<'_> {
         // Rows keep their limits.
         let columns = self.rows.columns();
         prove!(columns <= 256);
-        if let Some(found) = self.thin_move(place, path, best)? {
-            return Ok(found);
+        match place {
+            Place::Settled(settled) => settled_move(self.alloc, settled),
+            Place::Plain(_) => plain_move(self.alloc, self.rows, path, best),
+            Place::Framed(node) => {
+                if let Some(found) = self.node_move(node, path, best)? {
+                    return Ok(found);
+                }
+                *place = Place::Plain(path.items().len());
+                plain_move(self.alloc, self.rows, path, best)
+            }
         }
-        turn_plain(place, path.items().len());
-        plain_move(self.alloc, self.rows, path, best)
     }
 
     fn child(&mut self, place: &Place, cut: &Cut, j: i128) -> Result<Place, NoMemory> {
