@@ -1,7 +1,6 @@
 -- The nodes that have frames, and the splits along their directions.
 use Rattle.std.proofs.Common.{◌≡◌, ℕ, ◌+◌, ◌<◌, ◌≤◌, ℤ, pos, ◌≤ℤ◌, List, [], length, refl, sym, ap, subst, ◌∙◌, arith}
 use Rattle.std.specs.Prelude.{Option, All}
-use Rattle.std.proofs.lemmas.List.{length-map}
 use Rattle.std.proofs.lemmas.List.Elements.{All-weaker}
 use Rattle.whole_rows.specs.declared.bounds.Bounds.{Bounds}
 use Rattle.whole_rows.specs.WholeRows.{WholeRow, WholeRows}
@@ -17,9 +16,8 @@ use Rattle.reformulate.specs.Frames.{IsReachedFrame}
 use Rattle.reformulate.specs.Substitutions.{Substitution, dimension_of}
 use Rattle.presolve_map.specs.LiftedLines.{IsOverKept}
 use Rattle.presolve_map.specs.ReducedRows.{ReducedRows, IsReduced}
-use Rattle.presolve_map.specs.Columns.{is_open, kept, open_flags}
-use Rattle.presolve_map.proofs.KeptLaws.{length-kept}
-use Rattle.presolve_map.proofs.SelectLaws.{positions_le}
+use Rattle.presolve_map.specs.Columns.{kept}
+use Rattle.presolve_map.proofs.KeptLaws.{columns_le, length-kept}
 use Rattle.farkas_lift.specs.NodeEqualities.{node_equalities, work_form}
 use Rattle.node_regions.specs.NodeFrames.{IsKeptForm, IsNodeFrame}
 use Rattle.node_regions.specs.NodeRegions.{IsInNode}
@@ -57,7 +55,7 @@ pub root_dimension : (rows : WholeRows) (work : ReducedRows) (frame : Substituti
 root_dimension rows work frame reduced reached =
     let few = dimension_few (length work.rows.box) (node_equalities work []) frame reached in
     let columns : length work.rows.box ≡ length (kept rows.box rows.box) = ap length reduced.box in
-    omega (arith, few, columns, length-kept rows.box rows.box refl, positions_le (open_flags rows.box) 0, length-map is_open rows.box)
+    omega (arith, few, columns, length-kept rows.box rows.box refl, columns_le rows.box)
 
 module _ (rows : WholeRows) (path : List Slice) (frame : Substitution) (node : IsNodeFrame rows path frame) where
   -- a node along a direction of which in some frame of it there is a split has a path of less slices than there are columns
