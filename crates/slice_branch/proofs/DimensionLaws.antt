@@ -1,5 +1,5 @@
 -- How many coordinates frames have.
-use Rattle.std.proofs.Common.{◌≡◌, ⊎_elim, ℕ, suc, ◌+◌, ◌<◌, ◌≤◌, ℤ, pos, List, [], ◌∷◌, ◌++◌, length, sym, ap, subst, ◌∙◌, arith}
+use Rattle.std.proofs.Common.{◌≡◌, ⊎_elim, ℕ, zero, suc, ◌+◌, ◌<◌, ◌≤◌, ℤ, pos, List, [], ◌∷◌, ◌++◌, length, refl, sym, ap, subst, ◌∙◌, arith}
 use Rattle.std.specs.List.{remove}
 use Rattle.std.proofs.lemmas.Bool.{cases_lt}
 use Rattle.std.proofs.lemmas.List.Edits.{length-remove}
@@ -93,7 +93,8 @@ module _ (equalities : List Equality) (s t : Substitution) (of_s : IsFrame equal
   differ k e = cc
 
   below_some : (r : ℕ) → 0 < r → (k : ℕ) × (r ≡ suc k)
-  below_some (suc k) h = (k, cc)
+  below_some zero h = absurd (omega (arith, h))
+  below_some (suc k) h = (k, refl)
 
   pub some_coordinate : 0 < dimension_of t → 0 < dimension_of s
   some_coordinate some =

@@ -1,6 +1,8 @@
 -- The nodes that have frames, and the splits along their directions.
-use Rattle.std.proofs.Common.{◌≡◌, ℕ, ◌+◌, ◌<◌, ◌≤◌, ℤ, pos, ◌≤ℤ◌, List, [], length, refl, sym, ap, subst, ◌∙◌, arith}
+use Rattle.std.proofs.Common.{◌≡◌, ℕ, zero, suc, ◌+◌, ◌<◌, ◌≤◌, Bool, true, false, not, ℤ, pos, List, [], ◌∷◌, length, slice_index_or, refl, sym, ap, subst, ◌∙◌, arith}
 use Rattle.std.specs.Prelude.{Option, All}
+use Rattle.std.specs.Ordering.{int_eq}
+use Rattle.std.proofs.lemmas.Bool.Decides.{Decides-int_eq}
 use Rattle.std.proofs.lemmas.List.Elements.{All-weaker}
 use Rattle.whole_rows.specs.declared.bounds.Bounds.{Bounds}
 use Rattle.whole_rows.specs.WholeRows.{WholeRow, WholeRows}
@@ -16,7 +18,7 @@ use Rattle.reformulate.specs.Frames.{IsReachedFrame}
 use Rattle.reformulate.specs.Substitutions.{Substitution, dimension_of}
 use Rattle.presolve_map.specs.LiftedLines.{IsOverKept}
 use Rattle.presolve_map.specs.ReducedRows.{ReducedRows, IsReduced}
-use Rattle.presolve_map.specs.Columns.{kept}
+use Rattle.presolve_map.specs.Columns.{is_open, kept}
 use Rattle.presolve_map.proofs.KeptLaws.{columns_le, length-kept}
 use Rattle.farkas_lift.specs.NodeEqualities.{node_equalities, work_form}
 use Rattle.node_regions.specs.NodeFrames.{IsKeptForm, IsNodeFrame}
@@ -28,9 +30,25 @@ use Rattle.exact_nodes.specs.PathExcuses.IsExcused.{framed}
 use Rattle.exact_nodes.specs.ThinMoves.{IsThinAlong, IsThinMove}
 use Rattle.exact_nodes.specs.ThinMoves.IsThinBy.{along}
 use Rattle.exact_nodes.specs.declared.excuse.Excuse.{Excuse}
-use Rattle.exact_nodes.proofs.NodeFacts.{over_kept}
 use Rattle.slice_branch.specs.ExcusedPaths.{excused_here, IsExcusedPath}
 use Rattle.slice_branch.proofs.DimensionLaws.{dimension_few, some_coordinate}
+
+-- a column that is removed has one value
+closed_same : (b : Bounds) → is_open b ≡ false → b.low ≡ b.high
+closed_same b closed = (Decides-int_eq b.low b.high).0 (negated (int_eq b.low b.high) closed) where
+  negated : (flag : Bool) → not flag ≡ false → flag ≡ true
+  negated true e = refl
+  negated false e = sym e
+
+-- so a form on the columns that are kept is 0 there
+kept_zero : (box : List Bounds) (form : List ℤ) (d : Bounds) (column : ℕ) → IsKeptForm box form → column < length box → is_open (slice_index_or box column d) ≡ false → slice_index_or form column (pos 0) ≡ pos 0
+kept_zero [] form d column kept_form there closed = absurd (omega arith)
+kept_zero (b ∷ box) [] d column kept_form there closed = absurd kept_form
+kept_zero (b ∷ box) (a ∷ form) d zero kept_form there closed = kept_form.0 (closed_same b closed)
+kept_zero (b ∷ box) (a ∷ form) d (suc column) kept_form there closed = kept_zero box form d column kept_form.1 (omega arith) closed
+
+over_kept : (rows : WholeRows) (form : List ℤ) → IsKeptForm rows.box form → IsOverKept rows form
+over_kept rows form kept_form column there closed = kept_zero rows.box form _ column kept_form there closed
 
 -- presolving leaves one thing
 rows_from : (a b : WholeRows) → a.box ≡ b.box → a.rows ≡ b.rows → a.cost ≡ b.cost → a ≡ b

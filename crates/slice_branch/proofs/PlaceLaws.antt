@@ -148,6 +148,12 @@ sum_fits lo count w a b d e f =
     let size : nat_abs (lo +ℤ count) ≤ 2 ^ 99 = size_within (lo +ℤ count) low high in
     fits_signed_from_abs w128 (lo +ℤ count) (omega (arith, size))
 
+-- so has each value of a slice
+pub size_fits : (z : ℤ) → IsOfSize (2 ^ 98) z → FitsSigned w128 z
+size_fits z h =
+    let size : nat_abs z ≤ 2 ^ 99 = size_within z (omega (linear, h.0)) (omega (linear, h.1)) in
+    fits_signed_from_abs w128 z (omega (arith, size))
+
 -- the empty path
 root_within : (rows : WholeRows) → IsWithinLimits rows → IsPathWithin rows []
 root_within rows limits = record {

@@ -104,10 +104,10 @@ impl<'a> SliceBrancher<'a> {
 
 impl SliceBrancher<'_> {
     /// The move of a node with a frame: in the fast way, or else in the exact one.
-    fn node_move(
-        &self,
-        node: &mut Node,
-        path: &Path,
+    fn node_move<'x>(
+        &'x self,
+        node: &'x mut Node,
+        path: &'x Path,
         best: Option<i128>,
     ) -> Result<Option<Move>, NoMemory>
         requires stands { IsFramedPlace self.now.rows.now node.old path.now }
