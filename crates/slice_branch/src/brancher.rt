@@ -1,6 +1,8 @@
 //! The brancher of the search by reformulation.
 ghost use Rattle.std.specs.Prelude.{◌≡◌, ◌≤◌, ◌^◌, ◌+◌, ◌+ℤ◌, ◌≤ℤ◌, ◌<ℤ◌, ℤ, pos, List, [], length, Option, None, IfOk};
 ghost use Rattle.farkas_rows.specs.Refutes.{HasForms};
+ghost use Rattle.node_regions.specs.NodeFrames.{IsNodeFrame};
+ghost use Rattle.reformulate.specs.Substitutions.{dimension_of};
 ghost use Rattle.node_slices.specs.SliceNodes.{IsSlicedNode};
 ghost use Rattle.presolve_map.specs.Roots.{IsClosedRoot};
 ghost use Rattle.farkas_rows.specs.declared.path.Slice.{Slice};
@@ -8,7 +10,7 @@ ghost use Rattle.proof_tree.specs.Moves.{widest, Branches};
 ghost use Rattle.proof_tree.specs.Trees.{on_slice};
 ghost use Rattle.slice_branch.specs.declared.place.Place.TheVariants.{Framed};
 ghost use Rattle.slice_branch.specs.Framed.{IsAllowed, IsTried};
-ghost use Rattle.slice_branch.specs.Places.{height_of, is_plain_place, IsFramedPlace, IsRootPlace, IsSlicePlace, StandsFor};
+ghost use Rattle.slice_branch.specs.Places.{height_of, is_plain_place, IsRootPlace, IsSlicePlace, StandsFor};
 ghost use Rattle.slice_branch.specs.Roots.{IsRootOf, IsRootOf-prop};
 
 use crate::check::widest_of;
@@ -19,10 +21,11 @@ use crate::settled::{copy_of, settled_move};
 use crate::slices::slice_place;
 use crate::work::{Given, framed_move};
 use farkas_rows::Path;
-use node_search::{Halt, OpenModel, Task, row_forms};
+use node_search::{Halt, OpenModel, Programs, Task, row_forms};
 use plain_slices::plain_move;
 use presolve_map::{Presolved, presolve};
 use proof_tree::{Brancher, Cut, Move};
+use reformulate::Frame;
 use sequence::NoMemory;
 use std::alloc::Global;
 use whole_rows::DenseRows;
@@ -103,19 +106,20 @@ impl<'a> SliceBrancher<'a> {
 }
 
 impl SliceBrancher<'_> {
-    /// The move of a node with a frame: in the fast way, or else in the exact one.
+    /// The move of a node with a frame: in the fast way, or else in the exact one. None where the node is excused.
     fn node_move<'x>(
         &'x self,
-        node: &'x mut Node,
+        frame: &'x Frame,
+        programs: &mut Programs,
         path: &'x Path,
         best: Option<i128>,
     ) -> Result<Option<Move>, NoMemory>
-        requires stands { IsFramedPlace self.now.rows.now node.old path.now }
+        requires not_closed { ¬ (IsClosedRoot self.now.rows.now) }
+        requires node { IsNodeFrame self.now.rows.now path.now frame.now }
+        requires short { length path.now + dimension_of frame.now ≤ length self.now.rows.now.box }
         requires forms { HasForms (length self.now.rows.now.box) path.now }
         requires small { widest self.now.rows.now.box ≤ 2 ^ 97 }
-        ensures depth { node.new.depth ≡ node.old.depth }
-        ensures frame { node.new.frame ≡ node.old.frame }
-        ensures tried { IfOk result (IsTried self.now.rows.now path.now best) }
+        ensures { IfOk result (IsTried self.now.rows.now path.now best) }
     {
         let model = self.model();
         let task = Task {
@@ -124,14 +128,14 @@ impl SliceBrancher<'_> {
             best,
         };
         let given = Given {
-            frame: &node.frame,
+            frame,
             further: &self.further,
             most: self.most,
         };
-        match framed_move(self.alloc, model, task, given, &mut node.programs) {
+        match framed_move(self.alloc, model, task, given, programs) {
             Ok(found) => Ok(Some(found)),
             Err(Halt::NoMemory) => Err(NoMemory),
-            Err(Halt::GivesUp) => exact_tried(self.alloc, model, task, &node.frame),
+            Err(Halt::GivesUp) => exact_tried(self.alloc, model, task, frame),
         }
     }
 
@@ -175,7 +179,8 @@ impl Brancher for SliceBrancher<'_> {
             Place::Settled(settled) => settled_move(self.alloc, settled),
             Place::Plain(_) => plain_move(self.alloc, self.rows, path, best),
             Place::Framed(node) => {
-                if let Some(found) = self.node_move(node, path, best)? {
+                let tried = self.node_move(&node.frame, &mut node.programs, path, best)?;
+                if let Some(found) = tried {
                     return Ok(found);
                 }
                 *place = Place::Plain(path.items().len());
