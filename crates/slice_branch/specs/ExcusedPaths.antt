@@ -36,7 +36,7 @@ excused_here rows path best excuse h = (
     under = best;
     not_lower = not_higher best;
     excused = h;
-  }
+  },
 )
 
 -- an excuse holds under each lower best value
@@ -50,7 +50,7 @@ excused_lower rows path now before lower h = (
     under = h.1.under;
     not_lower = no_higher now before h.1.under lower h.1.not_lower;
     excused = h.1.excused;
-  }
+  },
 )
 
 -- and below the node
@@ -64,5 +64,5 @@ excused_below rows path more best h = (
     under = h.1.under;
     not_lower = h.1.not_lower;
     excused = h.1.excused;
-  }
+  },
 )

@@ -34,12 +34,7 @@ fn closed<'a>(task: Task<'a>, line: Line) -> Result<Move, Halt>
 }
 
 /// The split into the slices between the ends of a direction, where both are closed, and the points show that they are reached.
-fn sliced<'a>(
-    task: Task<'a>,
-    most: i128,
-    direction: Direction,
-    points: &[NodePoint],
-) -> Option<Cut>
+fn sliced<'a>(task: Task<'a>, most: i128, direction: Direction, points: &[NodePoint]) -> Option<Cut>
     requires forms { HasForms (length task.rows.now.box) task.path.now }
     requires most { most ≡ pos (widest task.rows.now.box + 1) }
     requires small { widest task.rows.now.box ≤ 2 ^ 97 }

@@ -7,8 +7,7 @@ use Rattle.slice_branch.proofs.roots.framed_root.Goals as goal
 
 pub returns : goal.returns
 returns c =
-    let model = c.args.model.now in
-    (
+    let model = c.args.model.now in (
       refl,
       c.requires.open,
       record {
@@ -17,5 +16,5 @@ returns c =
         kept = All-nil (λ (slice : Slice). IsKeptForm model.rows.now.box slice.form);
         reached = c.requires.reached;
       },
-      root_dimension model.rows.now model.work c.args.frame model.presolved c.requires.reached
+      root_dimension model.rows.now model.work c.args.frame model.presolved c.requires.reached,
     )
