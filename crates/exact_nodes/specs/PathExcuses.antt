@@ -1,10 +1,10 @@
 -- Why the nodes of a path are split by single columns.
-use Rattle.std.specs.Prelude.{◌≡◌, ◌⊎◌, ◌<◌, ◌^◌, ℤ, pos, ◌<ℤ◌, List, [], ◌∷◌, ◌++◌, length, false, Option, Some, None, FitsSigned}
+use Rattle.std.specs.Prelude.{◌≡◌, ◌⊎◌, ◌<◌, ◌^◌, ℤ, pos, ◌<ℤ◌, List, [], ◌∷◌, ◌++◌, length, All, Option, Some, None, FitsSigned}
 use Rattle.exact_math.specs.Rational.{ℚ, whole}
-use Rattle.exact_math.specs.RationalRing.{rationals}
 use Rattle.exact_math.specs.Ring.{integers}
-use Rattle.exact_vectors.specs.Vectors.{negate, zeros}
+use Rattle.exact_vectors.specs.Vectors.{negate}
 use Rattle.whole_rows.specs.WholeRows.{WholeRows, span}
+use Rattle.frac128.specs.Range.{IsNarrow}
 use Rattle.farkas_rows.specs.declared.fracs.FracUse.{FracUse}
 use Rattle.farkas_rows.specs.declared.line.Line.{Line}
 use Rattle.farkas_rows.specs.declared.path.Slice.{Slice}
@@ -26,12 +26,11 @@ use Rattle.reformulate.specs.declared.equality.Equality.{Equality}
 use Rattle.reformulate.specs.declared.gap.Gap.{Gap}
 use Rattle.reformulate.specs.declared.outcome.FrameExcuse.{FrameExcuse}
 use Rattle.reformulate.specs.declared.outcome.FrameExcuse.TheVariants as frame_excuses
-use Rattle.presolve_map.specs.LiftedLines.{IsLiftedLine}
+use Rattle.presolve_map.specs.LiftedLines.{IsLiftedLine, LineStays}
 use Rattle.presolve_map.specs.ReducedRows.{ReducedRows, IsReduced}
 use Rattle.row_lifting.specs.Lifting.{none}
 use Rattle.farkas_lift.specs.NodeEqualities.{node_equalities, work_form, work_slice}
-use Rattle.farkas_lift.specs.NodeLifting.{node_places, uses_of}
-use Rattle.farkas_lift.specs.NodeSides.{node_sides}
+use Rattle.farkas_lift.specs.NodeLifting.{root_uses}
 use Rattle.node_lines.specs.NodeLines.{end_number}
 use Rattle.node_regions.specs.NodeFrames.{IsKeptForm, IsNodeFrame}
 use Rattle.exact_nodes.specs.NodeExcuses.{IsExcusedBy}
@@ -83,10 +82,6 @@ pub record IsHeavyGapForm (rows : WholeRows) (path : List Slice) (form : List �
   pub gap : IsGapForm rows form lo
   pub heavy : 2 ^ 96 < span form rows.box
 
--- the equalities of the root so many times, as inequalities of the model
-abbrev pub times_uses : WholeRows → ReducedRows → List ℤ → List FracUse
-times_uses rows work times = uses_of (node_places rows work 0) (zeros rationals (length (node_sides work false))) (wholes times)
-
 -- the inequality at the end of a form at the root, so many times
 abbrev pub end_times : WholeRows → ℤ → FracUse
 end_times rows divisor = record { index = end_number rows []; times = whole divisor }
@@ -97,7 +92,20 @@ IsGapEnd form gap end times =
     ((end ≡ below form gap.lo) × (times ≡ negate integers gap.times))
     ⊎ ((end ≡ above form gap.lo) × (times ≡ gap.times))
 
--- The least whole line of a gap's times and divisor, for one of the ends, weighs above 2 to the power 126.
+-- The equalities of the root so many times leave the range of fractions as they are carried back to the model's inequalities: one
+-- of the times, or a product or a sum on the way to what they come to in a removed column.
+abbrev pub TimesLeave : WholeRows → ReducedRows → List ℤ → Type 0
+TimesLeave rows work times = ¬ (All IsNarrow times) ⊎ ¬ (LineStays rows none (root_uses rows work (wholes times)))
+
+-- The least whole line of the equalities of the root so many times and of an end of a form as often as the divisor says weighs above
+-- 2 to the power 126.
+pub record IsHeavyWith (rows : WholeRows) (work : ReducedRows) (divisor : ℤ) (times : List ℚ) (end : Option Inequality) : Type 0 where
+  pub items : List FracUse
+  pub lifted : IsLiftedLine rows none (root_uses rows work times) items
+  pub heavy : (line : Line) → IsLeastLine None (items ++ end_times rows divisor ∷ []) line → pos (2 ^ 126) <ℤ line_weight rows [] end line
+
+-- For one of the ends, the gap's times leave the range as they are carried back, or the least whole line of these and of the divisor
+-- weighs above 2 to the power 126.
 pub record IsHeavyGapLine (rows : WholeRows) (path : List Slice) : Type 0 where
   pub root : path ≡ []
   pub work : ReducedRows
@@ -110,9 +118,7 @@ pub record IsHeavyGapLine (rows : WholeRows) (path : List Slice) : Type 0 where
   pub end : Inequality
   pub times : List ℤ
   pub is_end : IsGapEnd form gap end times
-  pub items : List FracUse
-  pub lifted : IsLiftedLine rows none (times_uses rows work times) items
-  pub heavy : (line : Line) → IsLeastLine None (items ++ end_times rows gap.divisor ∷ []) line → pos (2 ^ 126) <ℤ line_weight rows [] (Some end) line
+  pub too_large : TimesLeave rows work times ⊎ IsHeavyWith rows work gap.divisor (wholes times) (Some end)
 
 -- ---- all of them
 

@@ -10,7 +10,8 @@ pub struct LiftBasis {
     pub pivots: Pivots,
 }
 
-/// The pivots whose multipliers give a line that is too heavy; none where the line is that of a gap.
+/// The pivots whose multipliers give a line that is too heavy; none where the line is that of a gap, whose times may also leave the
+/// range on the way to it.
 #[derive(Drop)]
 pub struct LineBasis {
     pub pivots: Pivots,

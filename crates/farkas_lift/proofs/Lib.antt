@@ -14,4 +14,5 @@ pub mod NodeAgree
 pub mod NodeComes
 pub mod NodePlaces
 pub mod MultipleLaws
+pub mod RootLaws
 pub mod LiftSteps

@@ -151,6 +151,10 @@ uses_of (places.Equality number ∷ rest) weights (t ∷ times) = equality_use n
 abbrev pub lifted_uses : WholeRows → Substitution → ReducedRows → List Slice → List ℚ → List FracUse
 lifted_uses model frame rows path weights = uses_of (node_places model rows (length path)) weights (equality_times frame rows path weights)
 
+-- those of the equalities of the root, each so many times, without any other inequality
+abbrev pub root_uses : WholeRows → ReducedRows → List ℚ → List FracUse
+root_uses model rows times = uses_of (node_places model rows 0) (zeros rationals (length (node_sides rows false))) times
+
 -- ---- what they come to
 
 -- the left side g of the weights in the coordinates of the frame

@@ -66,7 +66,7 @@ fn raised(entry: &Frac, times: &Frac, factor: i128) -> Result<Frac, Wide>
 }
 
 /// Fractions with the other sign.
-pub(crate) fn negated(alloc: Global, row: &[Frac]) -> Result<Vec<Frac>, NoMemory>
+pub fn negated(alloc: Global, row: &[Frac]) -> Result<Vec<Frac>, NoMemory>
     ensures { IfOk result (λ turned. turned.items ≡ negate rationals row.now) }
 {
     let mut turned = Vec::with_capacity(alloc, row.len())?;

@@ -6,5 +6,5 @@ mod lines;
 mod node;
 
 pub use halt::LineHalt;
-pub use lines::{empty_line, end_line};
+pub use lines::{empty_line, end_line, line_of};
 pub use node::Node;

@@ -125,8 +125,9 @@ fn cut_part(cut: Option<i128>, times: &Frac) -> Option<CutFrac>
     })
 }
 
-/// The least whole line of multipliers that refute a node.
-fn line_of<'a>(
+/// The least whole line of multipliers that refute a node, with the cut of this value so many times, where there is one. `Heavy`
+/// comes exactly where that line weighs above 2 to the power 126.
+pub fn line_of<'a>(
     alloc: Global,
     rows: &'a DenseRows,
     path: &'a Path,

@@ -16,7 +16,7 @@ mod work_rows;
 
 pub use laws::needed_row_is_violated_within_the_box;
 pub use lifting::lift_form;
-pub use line::{WorkTimes, lift_line};
+pub use line::{WorkTimes, bound_of, lift_line};
 pub use outcome::Presolved;
 pub use presolving::presolve;
 pub use work_rows::WorkRows;

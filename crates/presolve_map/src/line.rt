@@ -143,7 +143,7 @@ fn put_bound(
 }
 
 /// The bound of a column that takes this sum to 0, as often as it does; none where it is 0.
-fn bound_of(rows: &DenseRows, column: usize, sum: &Frac) -> Option<FracUse>
+pub fn bound_of(rows: &DenseRows, column: usize, sum: &Frac) -> Option<FracUse>
     requires { column < length rows.now.box }
     ensures value { result ≡ bound_of rows.now column sum.now }
     ensures number { IfSome result (λ item. (item.index ≡ upper_bound rows.now column) ⊎ (item.index ≡ lower_bound rows.now column)) }

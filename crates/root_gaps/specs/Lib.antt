@@ -1,1 +1,2 @@
+pub mod GapEnds
 pub mod GapMoves

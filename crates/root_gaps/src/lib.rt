@@ -1,6 +1,10 @@
 //! The split of a root whose equalities have no integer solution, without a slice.
 #![tactic(auto)]
 
+mod corner;
+mod ends;
+mod form;
+mod lines;
 mod moves;
 mod outcome;
 

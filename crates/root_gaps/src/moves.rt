@@ -3,22 +3,31 @@ ghost use Rattle.std.specs.Prelude.{ℤ, [], Option, IfOk, length};
 ghost use Rattle.farkas_lift.specs.NodeEqualities.{node_equalities};
 ghost use Rattle.presolve_map.specs.Columns.{IsColumnMap};
 ghost use Rattle.presolve_map.specs.ReducedRows.{IsReduced};
+ghost use Rattle.presolve_map.specs.Roots.{IsClosedRoot};
 ghost use Rattle.reformulate.specs.Gaps.{IsGap};
 ghost use Rattle.root_gaps.specs.GapMoves.{IsGapMove};
 
+use crate::ends::end_lines;
+use crate::form::gap_form;
 use crate::outcome::GapMove;
+use exact_nodes::{Excuse, LineBasis};
+use lp_solve::Pivots;
+use node_lines::LineHalt;
 use presolve_map::WorkRows;
+use proof_tree::{Cut, Mark};
 use reformulate::Gap;
 use sequence::NoMemory;
 use spaces::{Affine, Original, Work};
 use std::alloc::Global;
-use whole_rows::DenseRows;
+use whole_rows::{DenseRows, span_of};
 
-/// The split of a root along the form of a gap of its equalities, which has no whole value there. The map is that of presolving.
+/// The split of a root along the form of a gap of its equalities, which has no whole value there. The map is that of presolving,
+/// which did not close the root.
 ///
-/// `Excused` comes only where the form weighs above 2 to the power 96, or a line of the gap's times above 2 to the power 126.
+/// `Excused` comes only where the form weighs above 2 to the power 96, or a line of the gap's times above 2 to the power 126, or
+/// where these leave the range of `Frac` as they are carried back to the model's inequalities.
 pub fn gap_move(
-    _alloc: Global,
+    alloc: Global,
     rows: &DenseRows,
     work: &WorkRows,
     map: &Affine<Work, Original>,
@@ -26,8 +35,26 @@ pub fn gap_move(
 ) -> Result<GapMove, NoMemory>
     requires map { IsColumnMap rows.now.box map.now }
     requires presolved { IsReduced rows.now work.now }
+    requires open { IsClosedRoot rows.now → ⊥ }
     requires gap { IsGap (length work.now.rows.box) (node_equalities work.now []) gap.now }
     ensures { IfOk result (λ found. (best : Option ℤ) → IsGapMove rows.now best found) }
 {
-    Err(NoMemory)
+    let form = gap_form(alloc, rows, work, map, gap)?;
+    if span_of(form.items(), rows.bounds()).is_none() {
+        return Ok(GapMove::Excused(Excuse::HeavyForm(form)));
+    }
+    match end_lines(alloc, rows, work, gap, &form) {
+        Ok(lines) => Ok(GapMove::Split(Cut {
+            form,
+            lo: gap.lo,
+            count: 0,
+            below: lines.below,
+            above: lines.above,
+            mark: Mark::Thin,
+        })),
+        Err(LineHalt::NoMemory) => Err(NoMemory),
+        Err(LineHalt::Wide | LineHalt::Heavy) => Ok(GapMove::Excused(Excuse::HeavyLine(LineBasis {
+            pivots: Pivots::new(alloc),
+        }))),
+    }
 }
