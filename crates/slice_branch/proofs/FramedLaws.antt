@@ -23,7 +23,7 @@ use Rattle.presolve_map.proofs.KeptLaws.{columns_le, length-kept}
 use Rattle.farkas_lift.specs.NodeEqualities.{node_equalities, work_form}
 use Rattle.node_regions.specs.NodeFrames.{IsKeptForm, IsNodeFrame}
 use Rattle.node_regions.specs.NodeRegions.{IsInNode}
-use Rattle.node_regions.specs.RegionPoints.{IsFramedNode}
+use Rattle.node_lines.specs.NodeSystems.{IsFramedNode}
 use Rattle.exact_nodes.specs.ExactMoves.{IsNodeOf}
 use Rattle.exact_nodes.specs.NodeExcuses.{IsExcusedBy}
 use Rattle.exact_nodes.specs.PathExcuses.IsExcused.{framed}
@@ -100,7 +100,7 @@ module _ (rows : WholeRows) (path : List Slice) (frame : Substitution) (node : I
         subst (λ (w : ReducedRows). IsFramedNode rows w frame path) same (record {
           reduced = node.presolved;
           columns = node.reached.columns;
-          solutions = node.reached.frame;
+          is_frame = node.reached.frame;
           forms = forms;
           kept = All-weaker (λ (slice : Slice). IsKeptForm rows.box slice.form) (λ (slice : Slice). IsOverKept rows slice.form) (λ slice h. over_kept rows slice.form h) path node.kept;
         })

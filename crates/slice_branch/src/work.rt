@@ -13,12 +13,13 @@ ghost use Rattle.slice_branch.specs.SeenPoints.{ArePoints};
 use crate::check::{closes_under, is_kept_form, split_of};
 use crate::shown::{believed, show_ends};
 use farkas_rows::{End, Line};
+use node_lines::Node;
 use node_point::NodePoint;
 use node_search::{Direction, Found, Halt, OpenModel, Programs, Task};
 use proof_tree::{Cut, Move};
 use range_dict::Vertex;
 use reformulate::Frame;
-use shown_widths::{Node, is_direction};
+use shown_widths::is_direction;
 use std::alloc::Global;
 
 /// The move that the line makes, where it passes its check.
