@@ -1,17 +1,17 @@
 //! The brancher of the search by reformulation.
 ghost use Rattle.std.specs.Prelude.{◌≡◌, ◌≤◌, ◌^◌, ◌+◌, ◌+ℤ◌, ◌≤ℤ◌, ◌<ℤ◌, ℤ, pos, List, [], length, Option, None, IfOk};
 ghost use Rattle.farkas_rows.specs.Refutes.{HasForms};
+ghost use Rattle.farkas_rows.specs.declared.path.Slice.{Slice};
 ghost use Rattle.node_regions.specs.NodeFrames.{IsNodeFrame};
-ghost use Rattle.reformulate.specs.Substitutions.{dimension_of};
 ghost use Rattle.node_slices.specs.SliceNodes.{IsSlicedNode};
 ghost use Rattle.presolve_map.specs.Roots.{IsClosedRoot};
-ghost use Rattle.farkas_rows.specs.declared.path.Slice.{Slice};
 ghost use Rattle.proof_tree.specs.Moves.{widest, Branches};
 ghost use Rattle.proof_tree.specs.Trees.{on_slice};
-ghost use Rattle.slice_branch.specs.declared.place.Place.TheVariants.{Framed};
+ghost use Rattle.reformulate.specs.Substitutions.{dimension_of};
 ghost use Rattle.slice_branch.specs.Framed.{IsAllowed, IsTried};
 ghost use Rattle.slice_branch.specs.Places.{height_of, is_plain_place, IsRootPlace, IsSlicePlace, StandsFor};
 ghost use Rattle.slice_branch.specs.Roots.{IsRootOf, IsRootOf-prop};
+ghost use Rattle.slice_branch.specs.declared.place.Place.TheVariants.{Framed};
 
 use crate::check::widest_of;
 use crate::exact::exact_tried;
