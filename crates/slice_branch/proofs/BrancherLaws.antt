@@ -1,12 +1,11 @@
 -- What a brancher's places say of nodes.
-use Rattle.std.proofs.Common.{◌≡◌, ℕ, ◌+◌, ◌-◌, ◌*◌, ◌^◌, ◌≤◌, ℤ, pos, ◌+ℤ◌, ◌≤ℤ◌, ◌<ℤ◌, false, true, List, [], ◌∷◌, ◌++◌, length, refl, subst, sym, ap, ◌∙◌, arith}
+use Rattle.std.proofs.Common.{◌≡◌, ℕ, ◌+◌, ◌-◌, ◌*◌, ◌^◌, ◌≤◌, ℤ, pos, ◌+ℤ◌, ◌≤ℤ◌, ◌<ℤ◌, false, true, List, [], ◌∷◌, length, refl, subst, sym, ap, ◌∙◌, arith}
 use Rattle.std.specs.Prelude.{Option}
 use Rattle.exact_math.specs.IntegerRing.{linear}
 use Rattle.whole_rows.specs.WholeRows.{WholeRows}
 use Rattle.farkas_rows.specs.declared.path.Slice.{Slice}
 use Rattle.proof_tree.specs.declared.tree.Cut.{Cut}
 use Rattle.proof_tree.specs.declared.tree.Mark.TheVariants as marks
-use Rattle.proof_tree.specs.declared.tree.Move.{Move}
 use Rattle.proof_tree.specs.declared.tree.Move.TheVariants as moves
 use Rattle.proof_tree.specs.Trees.{IsShort, on_slice}
 use Rattle.proof_tree.specs.Moves.{widest, Branches, IsChildOf, IsMove}

@@ -1,6 +1,6 @@
 -- The nodes that have frames, and the splits along their directions.
 use Rattle.std.proofs.Common.{◌≡◌, ℕ, zero, suc, ◌+◌, ◌<◌, ◌≤◌, Bool, true, false, not, ℤ, pos, List, [], ◌∷◌, length, slice_index_or, refl, sym, ap, subst, ◌∙◌, arith}
-use Rattle.std.specs.Prelude.{Option, All}
+use Rattle.std.specs.Prelude.{Option}
 use Rattle.std.specs.Ordering.{int_eq}
 use Rattle.std.proofs.lemmas.Bool.Decides.{Decides-int_eq}
 use Rattle.std.proofs.lemmas.List.Elements.{All-weaker}
@@ -32,6 +32,8 @@ use Rattle.exact_nodes.specs.ThinMoves.IsThinBy.{along}
 use Rattle.exact_nodes.specs.declared.excuse.Excuse.{Excuse}
 use Rattle.slice_branch.specs.ExcusedPaths.{excused_here, IsExcusedPath}
 use Rattle.slice_branch.proofs.DimensionLaws.{dimension_few, some_coordinate}
+
+-- ---- work columns
 
 -- a column that is removed has one value
 closed_same : (b : Bounds) → is_open b ≡ false → b.low ≡ b.high
@@ -68,6 +70,8 @@ pub same_work : (rows : WholeRows) (a b : ReducedRows) → IsReduced rows a → 
 same_work rows a b x y =
     reduced_from a b (rows_from a.rows b.rows (x.box ∙ sym y.box) (x.rows ∙ sym y.rows) (x.cost ∙ sym y.cost)) (x.row_numbers ∙ sym y.row_numbers) (x.column_numbers ∙ sym y.column_numbers) (x.cost_constant ∙ sym y.cost_constant)
 
+-- ---- frames
+
 -- the frame of a root has at most a coordinate for each column
 pub root_dimension : (rows : WholeRows) (work : ReducedRows) (frame : Substitution) → IsReduced rows work → IsReachedFrame (length work.rows.box) (node_equalities work []) frame → dimension_of frame ≤ length rows.box
 root_dimension rows work frame reduced reached =
@@ -76,7 +80,7 @@ root_dimension rows work frame reduced reached =
     omega (arith, few, columns, length-kept rows.box rows.box refl, columns_le rows.box)
 
 module _ (rows : WholeRows) (path : List Slice) (frame : Substitution) (node : IsNodeFrame rows path frame) where
-  -- a node along a direction of which in some frame of it there is a split has a path of less slices than there are columns
+  -- where a node has a direction, in whatever frame of it, less slices lead to it than there are columns
   pub thin_short : (best : Option ℤ) (cut : Cut) → length path + dimension_of frame ≤ length rows.box → IsThinAlong rows path best cut → length path < length rows.box
   thin_short best cut few thin =
       let same = same_work rows thin.of_node.work node.work thin.of_node.presolved node.presolved in

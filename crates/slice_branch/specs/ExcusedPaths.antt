@@ -1,5 +1,5 @@
 -- Nodes that are split by single columns, because such a node has an excuse, or one above it.
-use Rattle.std.proofs.Common.{◌≡◌, ℤ, ◌≤ℤ◌, List, [], ◌++◌, append_assoc, sym, ◌∙◌, ap, arith}
+use Rattle.std.proofs.Common.{ℤ, List, [], ◌++◌, append_assoc, sym, ◌∙◌, ap, arith}
 use Rattle.std.specs.Prelude.{Option, Some, None}
 use Rattle.std.proofs.lemmas.Int.{ints}
 use Rattle.std.proofs.lemmas.List.{append-nil}

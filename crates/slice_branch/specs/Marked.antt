@@ -1,5 +1,5 @@
 -- Trees whose splits are marked by what they are.
-use Rattle.std.specs.Prelude.{Bool, ℤ, List, [], Option}
+use Rattle.std.specs.Prelude.{Bool, ℤ, [], Option}
 use Rattle.whole_rows.specs.WholeRows.{WholeRows}
 use Rattle.proof_tree.specs.declared.tree.Tree.{Tree}
 use Rattle.proof_tree.specs.declared.tree.PartTree.{PartTree}

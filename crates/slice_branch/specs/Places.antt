@@ -5,7 +5,7 @@ use Rattle.whole_rows.specs.WholeRows.{WholeRows, IsWithinLimits, span}
 use Rattle.farkas_rows.specs.declared.path.Slice.{Slice}
 use Rattle.farkas_rows.specs.Refutes.{HasForms}
 use Rattle.proof_tree.specs.Moves.{ClosesUnder, IsNoHigher}
-use Rattle.proof_tree.specs.Trees.{IsOfSize, on_slice}
+use Rattle.proof_tree.specs.Trees.{IsOfSize}
 use Rattle.plain_slices.specs.Shut.{IsFixedBy}
 use Rattle.presolve_map.specs.Roots.{IsClosedRoot}
 use Rattle.reformulate.specs.Substitutions.{dimension_of}

@@ -1,4 +1,4 @@
-use Rattle.std.proofs.Common.{refl, ◌≡◌}
+use Rattle.std.proofs.Common.{refl}
 use Rattle.std.proofs.lemmas.List.Elements.{All-nil}
 use Rattle.farkas_rows.specs.declared.path.Slice.{Slice}
 use Rattle.node_regions.specs.NodeFrames.{IsKeptForm}

@@ -1,4 +1,4 @@
-use Rattle.std.proofs.Common.{rules, ◌≡◌, ◌^◌, subst}
+use Rattle.std.proofs.Common.{rules, ◌≡◌, subst}
 use Rattle.proof_tree.specs.Moves.{SplitsUnder}
 use Rattle.proof_tree.specs.declared.tree.Mark.TheVariants as marks
 use Rattle.whole_rows.specs.WholeRows.{WholeRows}

@@ -7,7 +7,7 @@ use Rattle.proof_tree.specs.Trees.{on_slice}
 use Rattle.node_slices.specs.SliceNodes.{IsSlicedNode}
 use Rattle.proof_tree.specs.Moves.{Branches, IsChildOf}
 use Rattle.slice_branch.specs.declared.place.Place.{Place}
-use Rattle.slice_branch.specs.declared.place.Place.TheVariants.{Framed, Plain}
+use Rattle.slice_branch.specs.declared.place.Place.TheVariants.{Plain}
 use Rattle.slice_branch.specs.Framed.{IsAllowed}
 use Rattle.slice_branch.specs.Places.{height_of, is_plain_place, IsSlicePlace, StandsFor}
 use Rattle.slice_branch.proofs.BrancherLaws.{framed_child, plain_child, sliced_node}

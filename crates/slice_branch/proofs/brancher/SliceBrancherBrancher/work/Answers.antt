@@ -1,10 +1,9 @@
-use Rattle.std.proofs.Common.{◌≡◌, ◌-◌, ◌+◌, ◌*◌, false, true, length, subst, sym}
+use Rattle.std.proofs.Common.{◌≡◌, ◌-◌, ◌+◌, false, true, length, subst, sym}
 use Rattle.std.specs.Prelude.{IfOk}
 use Rattle.proof_tree.specs.declared.tree.Move.{Move}
 use Rattle.proof_tree.specs.Moves.{IsMove}
 use Rattle.plain_slices.specs.PlainMoves.{IsPlainAnswer}
 use Rattle.slice_branch.specs.declared.place.Place.{Place}
-use Rattle.slice_branch.specs.declared.place.Place.TheVariants.{Plain}
 use Rattle.slice_branch.specs.Framed.{IsAllowed, IsTried}
 use Rattle.slice_branch.specs.Places.{height_of, is_plain_place, StandsFor}
 use Rattle.slice_branch.specs.Settling.{move_of}
