@@ -3,7 +3,7 @@ use Rattle.std.specs.Int.{w128}
 use Rattle.std.proofs.lemmas.Int.{ints, to_z-of_z}
 use Rattle.proof_tree.specs.Moves.{widest}
 use Rattle.slice_branch.proofs.PlaceLaws.{sum_fits}
-use Rattle.slice_branch.proofs.check.is_direction.Goals as goal
+use Rattle.slice_branch.proofs.check.has_closed_ends.Goals as goal
 
 pub returns-then-closes_under : goal.returns-then-closes_under
 returns-then-closes_under c =

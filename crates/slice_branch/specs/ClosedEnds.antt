@@ -1,4 +1,4 @@
--- Directions that pass their checks.
+-- Forms whose two ends are closed.
 use Rattle.std.specs.Prelude.{◌+◌, ◌^◌, ℤ, pos, ◌+ℤ◌, ◌≤ℤ◌, List, Option, Some}
 use Rattle.whole_rows.specs.WholeRows.{WholeRows}
 use Rattle.farkas_rows.specs.declared.path.Slice.{Slice}
@@ -8,7 +8,7 @@ use Rattle.proof_tree.specs.Moves.{widest, ClosesUnder}
 use Rattle.node_search.specs.declared.directions.ends.Direction.{Direction}
 
 -- the form is one of a split, and its lines close the ends below its first value and above its last
-pub record IsDirection (rows : WholeRows) (best : Option ℤ) (path : List Slice) (direction : Direction) : Type 0 where
+pub record HasClosedEnds (rows : WholeRows) (best : Option ℤ) (path : List Slice) (direction : Direction) : Type 0 where
   pub form : IsSplitForm rows direction.form
   pub lo : IsOfSize (2 ^ 97) direction.lo
   pub some : pos 0 ≤ℤ direction.count
