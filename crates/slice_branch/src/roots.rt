@@ -32,7 +32,8 @@ pub(crate) fn root_equalities(alloc: Global, model: &OpenModel) -> Result<Equali
 
 /// The place of a root whose equalities have a gap: it is split without a slice, or the line or the form is too heavy.
 fn gap_root<'a>(alloc: Global, model: &'a OpenModel<'a>, gap: &Gap) -> Result<Place, NoMemory>
-    requires { IsGap (length model.now.work.rows.box) (node_equalities model.now.work []) gap.now }
+    requires open { ¬ (IsClosedRoot model.now.rows.now) }
+    requires gap { IsGap (length model.now.work.rows.box) (node_equalities model.now.work []) gap.now }
     ensures { IfOk result (IsRootPlace model.now.rows.now) }
 {
     match gap_move(alloc, model.rows, &model.work, &model.map, gap)? {
