@@ -1,7 +1,6 @@
 -- Why there is no line of an answer's multipliers.
 use Rattle.std.proofs.Common.{◌≡◌, ℕ, List, ℤ, refl}
 use Rattle.std.specs.Prelude.{Option}
-use Rattle.exact_math.specs.Rational.{ℚ}
 use Rattle.whole_rows.specs.WholeRows.{WholeRows}
 use Rattle.farkas_rows.specs.declared.path.Slice.{Slice}
 use Rattle.farkas_rows.specs.Inequalities.{Inequality}

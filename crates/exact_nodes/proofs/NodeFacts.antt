@@ -1,5 +1,5 @@
 -- What is known of a node with a frame, and of its system.
-use Rattle.std.proofs.Common.{◌≡◌, ℕ, zero, suc, ◌+◌, ◌*◌, ◌<◌, ◌≤◌, ◌^◌, Bool, true, false, not, List, [], ◌∷◌, length, map, get_or, ℤ, pos, refl, sym, ap, ap₂, subst, ◌∙◌, arith, All}
+use Rattle.std.proofs.Common.{◌≡◌, ℕ, zero, suc, ◌+◌, ◌<◌, Bool, true, false, not, List, [], ◌∷◌, length, get_or, ℤ, pos, refl, sym, ap, subst, ◌∙◌, arith, All}
 use Rattle.std.specs.Prelude.{Option, is_some}
 use Rattle.std.specs.List.{AllZip}
 use Rattle.std.specs.Ordering.{int_eq}
@@ -7,7 +7,7 @@ use Rattle.std.proofs.lemmas.Bool.Decides.{Decides-int_eq}
 use Rattle.std.proofs.lemmas.List.{length-map}
 use Rattle.std.proofs.lemmas.List.Elements.{All-cons, All-nil, All-weaker}
 use Rattle.std.proofs.lemmas.Nat.{mul-le}
-use Rattle.exact_math.specs.Rational.{ℚ, whole}
+use Rattle.exact_math.specs.Rational.{whole}
 use Rattle.exact_math.specs.Ring.{integers}
 use Rattle.exact_vectors.specs.Vectors.{zeros}
 use Rattle.frac128.specs.Range.{IsNarrow}
@@ -15,7 +15,6 @@ use Rattle.whole_rows.specs.declared.bounds.Bounds.{Bounds}
 use Rattle.whole_rows.specs.WholeRows.{WholeRows, IsWithinLimits}
 use Rattle.farkas_rows.specs.declared.path.Slice.{Slice}
 use Rattle.farkas_rows.specs.Inequalities.{Inequality}
-use Rattle.spaces.specs.Tables.{rows_in}
 use Rattle.form_widths.specs.Directions.{IsDirection}
 use Rattle.lp_dict.specs.Sizes.{MeetsCondition}
 use Rattle.lp_dict.specs.Systems.{left_sides, wholes}
@@ -37,7 +36,7 @@ use Rattle.farkas_lift.specs.NodeSystem.{IsSystemOf, SystemStays, cut_of, node_s
 use Rattle.farkas_lift.specs.declared.side.NodeSide.{NodeSide}
 use Rattle.node_lines.specs.NodeSystems.{IsFramedNode}
 use Rattle.node_regions.specs.CoordinateLaws.{region_is_bounded}
-use Rattle.node_regions.specs.NodeFrames.{IsKeptFactor, IsKeptForm, IsNodeFrame}
+use Rattle.node_regions.specs.NodeFrames.{IsKeptFactor, IsKeptForm}
 use Rattle.node_regions.specs.NodeRegions.{node_polytope}
 use Rattle.node_regions.specs.SystemLaws.{lines-narrow, polytope-system, sides-count}
 use Rattle.exact_nodes.specs.ExactMoves.{IsNodeOf}

@@ -1,7 +1,6 @@
 -- Why a node with a frame is split by single columns.
-use Rattle.std.specs.Prelude.{◌≡◌, ◌⊎◌, ℕ, ◌<◌, ◌^◌, ℤ, pos, ◌+ℤ◌, ◌-ℤ◌, List, [], All, Option, Some, None, FitsSigned}
+use Rattle.std.specs.Prelude.{◌≡◌, ◌⊎◌, ℕ, ◌<◌, ◌^◌, ℤ, pos, ◌+ℤ◌, ◌-ℤ◌, List, [], Option, Some, None, FitsSigned}
 use Rattle.exact_math.specs.Rational.{ℚ, whole, floor, ceil, neg_ℚ, ◌+ℚ◌}
-use Rattle.exact_math.specs.RationalRing.{rationals}
 use Rattle.exact_math.specs.Ring.{integers}
 use Rattle.exact_vectors.specs.Matrices.{combination}
 use Rattle.exact_vectors.specs.Range.{StaysInRange}
@@ -22,7 +21,7 @@ use Rattle.norm_gauge.specs.Widths.{Has, Polytope}
 use Rattle.generalised_reduce.specs.Halts.{ThinStopIs}
 use Rattle.generalised_reduce.specs.declared.answer.ThinStop.TheVariants as thin_stops
 use Rattle.thin_forms.specs.Candidates.{IsCandidate}
-use Rattle.reformulate.specs.Substitutions.{Substitution, columns_of, dimension_of}
+use Rattle.reformulate.specs.Substitutions.{Substitution, columns_of}
 use Rattle.presolve_map.specs.ReducedRows.{ReducedRows}
 use Rattle.farkas_lift.specs.NodeEqualities.{work_form}
 use Rattle.farkas_lift.specs.NodeSystem.{SystemStays}
@@ -90,11 +89,13 @@ pub record IsHeavyDirection (rows : WholeRows) (frame : Substitution) (work : Re
   pub chosen : IsChosenDirection p (rows_in frame.to_work.lines) form
   pub same : IsModelForm rows work frame form model_form
 
--- the least or the greatest whole value of the form at points of the node leaves `i128`
+-- The least whole value of the form at points of the node leaves `i128`; or the greatest one does, or the next whole number, from
+-- which on the form has no value.
 abbrev pub EndLeaves : Polytope → List ℤ → ℤ → Type 0
 EndLeaves p form constant =
     ((point : List ℚ) × (value : ℚ) × (weights : List ℚ) × IsLeastAt p (wholes form) point value weights × ¬ (FitsSigned w128 (ceil value +ℤ constant)))
-    ⊎ ((point : List ℚ) × (value : ℚ) × (weights : List ℚ) × IsLeastAt p (wholes (negate integers form)) point (neg_ℚ value) weights × ¬ (FitsSigned w128 (floor value +ℤ constant)))
+    ⊎ ((point : List ℚ) × (value : ℚ) × (weights : List ℚ) × IsLeastAt p (wholes (negate integers form)) point (neg_ℚ value) weights
+    × ¬ (FitsSigned w128 (floor value +ℤ constant) × FitsSigned w128 ((floor value +ℤ constant) +ℤ pos 1)))
 
 -- each entry of d V stays in `i128`, and its value at x0, with each product and each sum in index order
 abbrev pub FormStays : Substitution → List ℤ → Type 0

@@ -2,12 +2,13 @@
 ghost use Rattle.std.specs.Prelude.{◌≡◌, ◌<◌, IfErr, IfOk};
 ghost use Rattle.std.specs.List.{All};
 ghost use Rattle.frac128.specs.Range.{IsNarrow};
+ghost use Rattle.whole_rows.specs.WholeRows.{IsWithinLimits};
 ghost use Rattle.form_widths.specs.Directions.{IsDirection};
 ghost use Rattle.norm_gauge.specs.Widths.{IsInhabited};
 ghost use Rattle.presolve_map.specs.Columns.{IsColumnMap};
 ghost use Rattle.proof_tree.specs.Moves.{SplitsUnder};
 ghost use Rattle.proof_tree.specs.declared.tree.Mark.TheVariants as marks;
-ghost use Rattle.reformulate.specs.Substitutions.{dimension_of};
+ghost use Rattle.reformulate.specs.Substitutions.{IsSubstitution, dimension_of};
 ghost use Rattle.spaces.specs.Tables.{rows_in};
 ghost use Rattle.node_regions.specs.NodeRegions.{node_polytope};
 ghost use Rattle.exact_nodes.specs.ExactMoves.{HaltsSo, IsExactMove, IsNodeOf};
@@ -29,6 +30,7 @@ use proof_tree::{Cut, Mark};
 use sequence::NoMemory;
 use spaces::{Affine, Form, Kernel, Original, Vect, Work};
 use std::alloc::Global;
+use thin_columns::thin_column;
 use thin_forms::{ThinForm, ThinFormStop, thinnest};
 
 /// The move of a node in the exact way.
@@ -54,7 +56,11 @@ fn direction<'a>(alloc: Global, node: &Node<'a>, system: &System) -> Result<Form
     ensures narrow { IfOk result (All IsNarrow) }
     ensures halt { IfErr result (HaltsSo node.now.model.now node.now.work.now node.now.frame.now node.now.path.now node.now.cut) }
 {
-    match thinnest(alloc, system, node.frame.to_work().lines()) {
+    let lines = node.frame.to_work().lines();
+    if let Some(form) = thin_column(alloc, system, lines)? {
+        return Ok(form);
+    }
+    match thinnest(alloc, system, lines) {
         Ok(
             ThinForm {
                 form,
@@ -76,6 +82,8 @@ fn split<'a>(
 ) -> Result<Cut, Halt>
     requires node { IsNodeOf node.now.model.now node.now.work.now node.now.frame.now node.now.path.now }
     requires map { IsColumnMap node.now.model.now.box map.now }
+    requires limits { IsWithinLimits node.now.model.now }
+    requires frame { IsSubstitution node.now.frame.now }
     requires region { IsRegion node.now.frame.now node.now.work.now node.now.cut system.now }
     requires inhabited { IsInhabited (node_polytope node.now.frame.now node.now.work.now node.now.cut) }
     requires some { 0 < dimension_of node.now.frame.now }
@@ -107,6 +115,7 @@ fn inhabited_move<'a>(
 ) -> Result<Exact, Halt>
     requires node { IsNodeOf node.now.model.now node.now.work.now node.now.frame.now node.now.path.now }
     requires map { IsColumnMap node.now.model.now.box map.now }
+    requires limits { IsWithinLimits node.now.model.now }
     requires region { IsRegion node.now.frame.now node.now.work.now node.now.cut system.now }
     requires inhabited { IsInhabited (node_polytope node.now.frame.now node.now.work.now node.now.cut) }
     ensures done { IfOk result (IsExactMove node.now.model.now node.now.work.now node.now.frame.now node.now.path.now node.now.cut) }

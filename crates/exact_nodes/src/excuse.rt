@@ -32,7 +32,7 @@ pub enum Excuse {
     HeavyLine(LineBasis),
     /// The form of the split weighs above 2 to the power 96.
     HeavyForm(Form<Original>),
-    /// The form on the coordinates of the frame, its constant or an end of it leaves `i128` over the work columns; where the form
-    /// is all 0, it is the node's system that leaves the range.
+    /// The form on the coordinates of the frame, its constant, an end of it or the next whole number above its values leaves `i128`
+    /// over the work columns; where the form is all 0, it is the node's system that leaves the range.
     WideMap(Form<Kernel>),
 }

@@ -1,5 +1,6 @@
 //! The lines of a node from the answers of its linear programs.
-ghost use Rattle.std.specs.Prelude.{◌≡◌, ◌+ℤ◌, pos, length, None, Some, IfErr, IfOk};
+ghost use Rattle.std.specs.Prelude.{◌≡◌, ◌+ℤ◌, pos, length, None, Some, FitsSigned, IfErr, IfOk, SomeIff};
+ghost use mir.Syntax.{w128};
 ghost use Rattle.std.specs.List.{All};
 ghost use Rattle.exact_math.specs.Ring.{integers};
 ghost use Rattle.exact_vectors.specs.Vectors.{dot, negate, zeros};
@@ -156,6 +157,15 @@ fn opposite(alloc: Global, form: &Form<Kernel>) -> Result<Form<Kernel>, NoMemory
     Ok(Form::of(items))
 }
 
+/// The next whole number above a sum.
+///
+/// `None` comes exactly where the sum or that number leaves `i128`.
+fn next_above(value: i128, constant: i128) -> Option<i128>
+    ensures { SomeIff result (FitsSigned w128 (value +ℤ constant) × FitsSigned w128 ((value +ℤ constant) +ℤ pos 1)) ((value +ℤ constant) +ℤ pos 1) }
+{
+    value.checked_add(constant)?.checked_add(1)
+}
+
 /// The upper end of a direction: its last whole value at points of the node, and the line of the values above.
 pub(crate) fn upper_end<'a>(
     alloc: Global,
@@ -176,15 +186,18 @@ pub(crate) fn upper_end<'a>(
 {
     let other = opposite(alloc, form)?;
     let optimum = least(alloc, node, system, &other)?;
-    let Some(last) = optimum.value.neg().floor().checked_add(moved.constant) else {
+    let Some(from) = next_above(optimum.value.neg().floor(), moved.constant) else {
         return Err(Halt::Excused(Excuse::WideMap(copied(alloc, form)?)));
     };
     let end = End::Above {
         form: &moved.form,
-        from: last + 1,
+        from,
     };
     match end_line(alloc, node, &end, optimum.multipliers.items()) {
-        Ok(line) => Ok(EndValue { value: last, line }),
+        Ok(line) => Ok(EndValue {
+            value: from - 1,
+            line,
+        }),
         Err(halt) => Err(no_line(halt, optimum.pivots)),
     }
 }

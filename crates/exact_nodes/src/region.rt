@@ -4,6 +4,7 @@ ghost use Rattle.std.specs.List.{All};
 ghost use Rattle.exact_math.specs.Ring.{integers};
 ghost use Rattle.exact_vectors.specs.Vectors.{zeros};
 ghost use Rattle.frac128.specs.Range.{IsNarrow};
+ghost use Rattle.whole_rows.specs.WholeRows.{IsWithinLimits};
 ghost use Rattle.lp_dict.specs.Systems.{wholes};
 ghost use Rattle.lp_solve.specs.Ended.{EndsSo};
 ghost use Rattle.reformulate.specs.Substitutions.{dimension_of};
@@ -35,6 +36,7 @@ pub(crate) fn zero_form(alloc: Global, coordinates: usize) -> Result<Form<Kernel
 pub(crate) fn region<'a>(alloc: Global, node: &Node<'a>) -> Result<System, Halt>
     requires node { IsNodeOf node.now.model.now node.now.work.now node.now.frame.now node.now.path.now }
     ensures region { IfOk result (IsRegion node.now.frame.now node.now.work.now node.now.cut) }
+    ensures limits { IsWithinLimits node.now.model.now }
     ensures halt { IfErr result (HaltsSo node.now.model.now node.now.work.now node.now.frame.now node.now.path.now node.now.cut) }
 {
     let coordinates = node.frame.dimension();

@@ -1,5 +1,5 @@
 -- The rational points of a node, over the columns that presolving keeps and in the coordinates of a frame.
-use Rattle.std.proofs.Common.{◌≡◌, ℕ, zero, suc, ◌+◌, ◌<◌, Bool, true, false, List, [], ◌∷◌, ◌++◌, length, get_or, ℤ, pos, neg_ℤ, ◌+ℤ◌, ◌-ℤ◌, map, refl, ap, ap₂, sym, subst, ◌∙◌, arith}
+use Rattle.std.proofs.Common.{◌≡◌, ℕ, zero, suc, ◌<◌, Bool, true, false, List, [], ◌∷◌, ◌++◌, length, get_or, ℤ, pos, neg_ℤ, ◌+ℤ◌, ◌-ℤ◌, map, refl, ap, ap₂, sym, subst, ◌∙◌, arith}
 use Rattle.std.specs.Prelude.{Option, Some, None, IfSome, is_some, unwrap_or, ◌||◌}
 use Rattle.std.specs.List.{All, AllZip}
 use Rattle.std.proofs.lemmas.List.{ext_get_or, get_or_default, length-map}
@@ -11,7 +11,7 @@ use Rattle.exact_math.specs.RingSolver.{ring, reads}
 use Rattle.exact_math.specs.Rational.{ℚ, whole, ◌+ℚ◌, neg_ℚ, ◌-ℚ◌, ◌≤ℚ◌}
 use Rattle.exact_math.specs.RationalOrder.{le_antisym, le_trans, whole_le}
 use Rattle.exact_math.specs.RationalRing.{rationals, add_zero, whole_add}
-use Rattle.exact_vectors.specs.Vectors.{dot, negate}
+use Rattle.exact_vectors.specs.Vectors.{negate}
 use Rattle.exact_vectors.specs.Matrices.{times_vector}
 use Rattle.whole_rows.specs.declared.bounds.Bounds.{Bounds}
 use Rattle.whole_rows.specs.declared.ends.End.TheVariants.{Least, Greatest}
@@ -30,9 +30,7 @@ use Rattle.form_widths.specs.NodePointLaws.{IsIn, at_least-met}
 use Rattle.form_widths.specs.PulledLaws.{form_value-point_over, IsMetAt-pulled, whole_sub}
 use Rattle.form_widths.specs.RationalOrderLaws.{le_by, le_of_equal}
 use Rattle.lp_dict.specs.Systems.{wholes}
-use Rattle.reformulate.specs.Solutions.{Solves}
 use Rattle.reformulate.specs.Substitutions.{IsShaped, Substitution, columns_of, dimension_of}
-use Rattle.reformulate.specs.declared.equality.Equality.{Equality}
 use Rattle.rational_frames.specs.RationalFrameLaws.{rational_frame}
 use Rattle.rational_frames.specs.RationalFrames.{IsRationalFrame, MeetsOver, SolvesOver, rational_coordinates_of, rational_point_of}
 use Rattle.presolve_map.specs.Columns.{is_open, kept, open_flags, removed_part, removed_values}
@@ -48,7 +46,8 @@ use Rattle.farkas_lift.specs.declared.side.NodeSide.{NodeSide}
 use Rattle.farkas_lift.specs.declared.side.NodeSide.TheVariants.{RowAtMost, RowAtLeast, ColumnAtMost, ColumnAtLeast, Cut}
 use Rattle.farkas_lift.proofs.JoinedLaws.{joined-All, joined-at, joined-length, positions-at, select-at, select-length}
 use Rattle.farkas_lift.proofs.NodeValues.{both_sides, no_part}
-use Rattle.node_regions.specs.RegionPoints.{IsFramedNode, StandsFor}
+use Rattle.node_lines.specs.NodeSystems.{IsFramedNode}
+use Rattle.node_regions.specs.RegionPoints.{StandsFor}
 use Rattle.node_regions.specs.KeptValues.{spread, lies-spread, lies-select, select-spread, form_value-kept, least_sum, greatest_sum}
 use Rattle.node_regions.specs.NodeRegions.{IsInNode}
 
@@ -432,7 +431,7 @@ module _ (work : ReducedRows) (frame : Substitution) (path : List Slice) (cut : 
 
 module _ (model : WholeRows) (work : ReducedRows) (frame : Substitution) (path : List Slice) (cut : Option ℤ) (limits : IsWithinLimits model) (shaped : IsShaped frame) (framed : IsFramedNode model work frame path) where
   over_rationals : IsRationalFrame (node_equalities work path) frame
-  over_rationals = rational_frame (node_equalities work path) frame shaped framed.solutions
+  over_rationals = rational_frame (node_equalities work path) frame shaped framed.is_frame
 
   -- Each rational point of a node has coordinates in the region.
   pub inward : (x : List ℚ) → IsRationalPoint model path cut x → (y : List ℚ) × (IsInNode frame work cut y × StandsFor model frame y x)

@@ -10,7 +10,8 @@ ghost use Rattle.reformulate.specs.Substitutions.{IsShaped, Substitution};
 ghost use Rattle.presolve_map.specs.Columns.{removed_part};
 ghost use Rattle.presolve_map.specs.ReducedRows.{ReducedRows};
 ghost use Rattle.farkas_lift.specs.NodeEqualities.{work_form};
-ghost use Rattle.node_regions.specs.RegionPoints.{IsFramedNode, StandsFor};
+ghost use Rattle.node_lines.specs.NodeSystems.{IsFramedNode};
+ghost use Rattle.node_regions.specs.RegionPoints.{StandsFor};
 ghost use Rattle.node_regions.specs.NodeRegions.{IsInNode};
 
 /// Each rational point of a node has coordinates in the node's region, each point of the region stands for one of the node, and

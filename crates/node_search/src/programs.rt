@@ -4,8 +4,9 @@ ghost use Rattle.farkas_rows.specs.Refutes.{HasForms};
 ghost use Rattle.proof_tree.specs.Moves.{Improves};
 ghost use Rattle.node_search.specs.FoundPoints.{IsFound};
 
-use crate::directions::choice::{Thin, thin_direction};
+use crate::directions::choice::thin_direction;
 use crate::directions::seen::Seen;
+use crate::directions::thin::Thin;
 use crate::forms::frame_forms::{own_forms, root_forms, slice_forms};
 use crate::forms::short::Shortener;
 use crate::found::Found;

@@ -1,0 +1,7 @@
+mod FrameCharts
+mod LightSums
+mod NodeForms
+mod PrimitiveForms
+mod ReachLaws
+mod SliceLaws
+mod SlicedNodes

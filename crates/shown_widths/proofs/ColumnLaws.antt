@@ -1,28 +1,20 @@
 -- What the checks of columns show: common divisors, and columns that are as wide as a form.
-use Rattle.std.proofs.Common.{◌≡◌, ⊎_elim, ℕ, zero, suc, ◌*◌, ◌<◌, ◌≤◌, List, [], ◌∷◌, length, get_or, ℤ, pos, negsuc, nat_abs, ◌+ℤ◌, ◌*ℤ◌, ◌<ℤ◌, map, refl, ap, ap₂, sym, subst, subst₂, ◌∙◌, arith}
-use Rattle.std.specs.Prelude.{◌⊎◌, Option, All}
+use Rattle.std.proofs.Common.{◌≡◌, ℕ, suc, ◌<◌, List, [], ◌∷◌, length, get_or, ℤ, pos, negsuc, nat_abs, ◌*ℤ◌, refl, ap, sym, subst, ◌∙◌, arith}
+use Rattle.std.specs.Prelude.{All}
 use Rattle.std.specs.Int.{◌∣◌}
-use Rattle.std.proofs.lemmas.List.{ext_get_or, length-map, get_or-map, get_or_default}
-use Rattle.std.proofs.lemmas.List.Elements.{All-nil, All-cons, All-head, All-tail, All-map, All-weaker}
+use Rattle.std.proofs.lemmas.List.{ext_get_or}
+use Rattle.std.proofs.lemmas.List.Elements.{All-nil, All-cons, All-head, All-tail, All-map}
 use Rattle.std.proofs.Math.Nat.{dvd-mul_right, eq-one_of_dvd-one, eq-zero_of_zero-dvd}
 use Rattle.std.proofs.lemmas.Nat.Gcd.{dvd-zero}
-use Rattle.exact_math.specs.Gcd.{gcd}
 use Rattle.exact_math.specs.GcdLaws.{dvd_gcd, gcd_dvd_left, gcd_dvd_right}
 use Rattle.exact_math.specs.IntegerOrder.{abs_mul}
-use Rattle.exact_math.specs.IntegerRing.{linear}
 use Rattle.exact_math.specs.Ring.{integers}
-use Rattle.exact_math.specs.RingSolver.{ring, reads}
-use Rattle.exact_math.specs.Rational.{ℚ, frac, ratio, whole, ◌+ℚ◌, ◌-ℚ◌, ◌*ℚ◌, ◌/ℚ◌, ◌≤ℚ◌}
-use Rattle.exact_math.specs.RationalOrder.{le_trans, mul_le, whole_le}
-use Rattle.exact_math.specs.RationalRing.{rationals}
 use Rattle.exact_vectors.specs.Vectors.{scale}
 use Rattle.exact_vectors.specs.Matrices.{HasWidth, column, combination}
 use Rattle.exact_vectors.specs.MatrixLaws as Matrix
 use Rattle.farkas_rows.specs.Inequalities.{unit}
-use Rattle.farkas_rows.specs.NodeLaws.{dot-unit, length-unit}
-use Rattle.node_point.specs.RationalPoints.{form_value}
+use Rattle.farkas_rows.specs.NodeLaws.{dot-unit}
 use Rattle.form_widths.specs.Widths.{IsPrimitive}
-use Rattle.form_widths.specs.PrimitiveLaws.{primitive_nonzero}
 use Rattle.unimodular_pair.specs.Gathering.{common_divisor}
 
 -- ---- common divisors

@@ -1,17 +1,15 @@
 -- What the checks of a direction show.
-use Rattle.std.proofs.Common.{◌≡◌, ◌≢◌, ⊎_elim, inl, inr, ℕ, zero, suc, ◌+◌, ◌-◌, ◌*◌, ◌^◌, ◌<◌, ◌≤◌, Bool, true, false, List, [], ◌∷◌, length, get_or, ℤ, pos, negsuc, nat_abs, ◌+ℤ◌, ◌-ℤ◌, ◌*ℤ◌, ◌≤ℤ◌, map, refl, ap, ap₂, sym, subst, subst₂, ◌∙◌, arith, mul-pos}
-use Rattle.std.specs.Prelude.{◌⊎◌, Option, IfSome, is_some, All}
-use Rattle.std.specs.Int.{◌∣◌}
+use Rattle.std.proofs.Common.{◌≡◌, ⊎_elim, inl, inr, ℕ, zero, suc, ◌-◌, ◌*◌, ◌^◌, ◌<◌, ◌≤◌, Bool, true, false, List, [], ◌∷◌, length, get_or, ℤ, pos, negsuc, nat_abs, ◌+ℤ◌, ◌*ℤ◌, ◌≤ℤ◌, map, refl, ap, ap₂, sym, subst, subst₂, ◌∙◌, arith, mul-pos}
+use Rattle.std.specs.Prelude.{◌⊎◌, Option, is_some, All}
 use Rattle.std.proofs.lemmas.List.{length-map}
 use Rattle.std.proofs.lemmas.List.Elements.{All-nil, All-cons, All-head, All-tail, All-map, All-weaker, All-get_or}
 use Rattle.std.proofs.lemmas.Slice.Zip.{AllZip-long}
 use Rattle.exact_math.specs.IntegerRing.{linear}
-use Rattle.exact_math.specs.Ring.{integers}
 use Rattle.exact_math.specs.RingSolver.{ring, reads}
 use Rattle.exact_math.specs.Rational.{ℚ, whole, inv_ℚ, ◌+ℚ◌, ◌-ℚ◌, ◌*ℚ◌, ◌/ℚ◌, ◌≤ℚ◌}
-use Rattle.exact_math.specs.RationalOrder.{difference_from_le, le_refl, le_trans, mul_le, mul_nonneg, whole_le}
-use Rattle.exact_math.specs.RationalRing.{rationals, mul_one, whole_mul}
-use Rattle.exact_vectors.specs.Vectors.{scale, sum}
+use Rattle.exact_math.specs.RationalOrder.{le_trans, mul_le, mul_nonneg, whole_le}
+use Rattle.exact_math.specs.RationalRing.{rationals, whole_mul}
+use Rattle.exact_vectors.specs.Vectors.{sum}
 use Rattle.whole_rows.specs.WholeRows.{WholeRows, IsWithinLimits}
 use Rattle.farkas_rows.specs.declared.path.Slice.{Slice}
 use Rattle.farkas_rows.specs.Inequalities.{Inequality}
@@ -22,24 +20,24 @@ use Rattle.node_point.specs.NodePoints.{Fractions, IsNodePoint}
 use Rattle.node_point.specs.RationalPoints.{coordinates, form_value, IsRationalPoint}
 use Rattle.node_point.specs.RationalPointLaws.{point-rational}
 use Rattle.whole_vectors.specs.ClearedLaws.{inverse-mul}
-use Rattle.form_widths.specs.Inequalities.{IsMetAt, IsSolution, slack}
+use Rattle.form_widths.specs.Inequalities.{IsSolution, slack}
 use Rattle.form_widths.specs.MeanLaws.{length-mean, mean_step, room_at_least}
 use Rattle.form_widths.specs.Means.{AllowsStep, LeavesStep, mean, room_of}
 use Rattle.form_widths.specs.NodePointLaws.{IsIn}
 use Rattle.form_widths.specs.PulledLaws.{bound-pulled, slack-pulled}
-use Rattle.form_widths.specs.RationalOrderLaws.{inverse-nonneg, le_of_equal}
+use Rattle.form_widths.specs.RationalOrderLaws.{inverse-nonneg}
 use Rattle.form_widths.specs.Rooms.{HasRoom}
 use Rattle.form_widths.specs.WidthLaws.{room_bounds_width}
 use Rattle.form_widths.specs.Widths.{IsBoundOn, IsNoWiderThan, IsNonzero}
-use Rattle.reformulate.specs.Substitutions.{IsShaped, Substitution, columns_of, dimension_of}
+use Rattle.reformulate.specs.Substitutions.{IsShaped, Substitution, dimension_of}
 use Rattle.rational_frames.specs.RationalFrames.{rational_point_of}
-use Rattle.presolve_map.specs.Columns.{kept, open_flags, removed_part}
+use Rattle.presolve_map.specs.Columns.{open_flags, removed_part}
 use Rattle.presolve_map.specs.ReducedRows.{ReducedRows}
 use Rattle.presolve_map.specs.Selections.{select}
 use Rattle.farkas_lift.specs.NodeEqualities.{work_form}
 use Rattle.farkas_lift.specs.NodeSides.{inequality_of, node_sides}
 use Rattle.farkas_lift.specs.NodeSystem.{cut_of, node_system, pulled}
-use Rattle.node_regions.specs.RegionPoints.{IsFramedNode}
+use Rattle.node_lines.specs.NodeSystems.{IsFramedNode}
 use Rattle.node_regions.specs.NodePointLaws.{inward, outward, values, work_form-is, rows_met, met_by_rows}
 use Rattle.node_regions.specs.NodeRegions.{IsInNode}
 use Rattle.shown_widths.specs.Points.{work_fractions}

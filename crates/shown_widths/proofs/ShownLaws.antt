@@ -1,6 +1,6 @@
 -- Points and lines show a form to be a direction.
 use Rattle.std.proofs.Common.{◌≡◌, ⊎_elim, ℕ, zero, suc, ◌-◌, ◌*◌, ◌^◌, ◌<◌, ◌≤◌, List, [], ◌∷◌, length, get_or, ℤ, pos, negsuc, nat_abs, ◌*ℤ◌, ◌<ℤ◌, map, refl, ap, ap₂, sym, subst, subst₂, ◌∙◌, arith, mul-pos}
-use Rattle.std.specs.Prelude.{◌⊎◌, Option, All}
+use Rattle.std.specs.Prelude.{Option, All}
 use Rattle.std.specs.Int.{◌∣◌}
 use Rattle.std.proofs.Math.Nat.{le_of_dvd}
 use Rattle.std.proofs.lemmas.List.{length-map, get_or-map}
@@ -9,7 +9,7 @@ use Rattle.exact_math.specs.IntegerOrder.{abs_mul}
 use Rattle.exact_math.specs.IntegerRing.{linear}
 use Rattle.exact_math.specs.Ring.{integers}
 use Rattle.exact_math.specs.RingSolver.{ring, reads}
-use Rattle.exact_math.specs.Rational.{ℚ, frac, ratio, whole, ◌+ℚ◌, ◌-ℚ◌, ◌*ℚ◌, ◌/ℚ◌, ◌≤ℚ◌}
+use Rattle.exact_math.specs.Rational.{ℚ, whole, ◌+ℚ◌, ◌-ℚ◌, ◌*ℚ◌, ◌/ℚ◌, ◌≤ℚ◌}
 use Rattle.exact_math.specs.RationalOrder.{le_trans, mul_le, whole_le}
 use Rattle.exact_math.specs.RationalRing.{rationals}
 use Rattle.exact_vectors.specs.Vectors.{dot, scale}
@@ -26,20 +26,21 @@ use Rattle.form_widths.specs.Directions.{IsDirection, IsFreeColumn}
 use Rattle.form_widths.specs.FormLaws.{form_value-unit}
 use Rattle.form_widths.specs.PrimitiveLaws.{primitive_nonzero}
 use Rattle.form_widths.specs.PulledLaws.{form_value-point_over}
-use Rattle.form_widths.specs.RationalOrderLaws.{quotient-frac}
 use Rattle.form_widths.specs.WidthLaws.{no_wider_by_multiple}
-use Rattle.form_widths.specs.Widths.{IsBoundOn, IsNoWiderThan, IsPrimitive}
+use Rattle.form_widths.specs.Widths.{IsBoundOn, IsNoWiderThan}
 use Rattle.unimodular_pair.specs.Gathering.{common_divisor}
 use Rattle.reformulate.specs.Substitutions.{IsShaped, Substitution, columns_of, dimension_of}
 use Rattle.rational_frames.specs.RationalFrames.{rational_point_of}
 use Rattle.presolve_map.specs.ReducedRows.{ReducedRows}
 use Rattle.farkas_lift.specs.NodeEqualities.{work_form}
-use Rattle.node_regions.specs.RegionPoints.{IsFramedNode}
+use Rattle.node_lines.specs.NodeSystems.{IsFramedNode}
 use Rattle.node_regions.specs.NodeRegions.{IsInNode}
 use Rattle.shown_widths.specs.Columns.{column_value, AreApart, IsOneOf, IsShownWide}
 use Rattle.shown_widths.specs.Points.{work_fractions}
 use Rattle.shown_widths.specs.Thin.{IsThinBy}
 use Rattle.shown_widths.proofs.ColumnLaws.{combination-unit, divisor_of_multiple, none_by, primitive_by}
+use Rattle.shown_widths.proofs.OneCoordinateLaws.{one_coordinate}
+use Rattle.shown_widths.proofs.QuotientLaws.{quotient_is}
 use Rattle.shown_widths.proofs.DirectionLaws.{all_coordinates, bound_in_region, thin_shown, with_coordinates, HasCoordinates}
 
 -- a multiple that is all 0
@@ -56,12 +57,6 @@ none_of_multiple g (a ∷ form) some h =
     zero_by (pos zero) e = refl
     zero_by (pos (suc n)) e = absurd (not_both (g * suc n) (mul-pos some (omega arith)) e)
     zero_by (negsuc n) e = absurd (not_both (g * suc n) (mul-pos some (omega arith)) e)
-
--- a quotient of whole numbers
-quotient_is : (n d : ℤ) → pos 0 <ℤ d → whole n /ℚ whole d ≡ ratio n d
-unfolding ratio
-quotient_is n (pos d) h = quotient-frac n d (omega linear)
-quotient_is n (negsuc d) h = absurd (omega linear)
 
 module _ (model : WholeRows) (work : ReducedRows) (frame : Substitution) (path : List Slice) (cut : Option ℤ) (limits : IsWithinLimits model) (shaped : IsShaped frame) (framed : IsFramedNode model work frame path) where
   -- the line of a column, at the coordinates of a point: the column's value there, less that at the base
@@ -156,4 +151,23 @@ module _ (model : WholeRows) (work : ReducedRows) (frame : Substitution) (path :
           primitive = primitive_by (pulled_form frame.to_work (work_form work form)) lowest;
           thin = λ other long nonzero. thin_shown model work frame path cut limits shaped framed shown.width shown.times points (pulled_form frame.to_work (work_form work form)) size other are some_points shown.some shown.few shown.factor shown.not_negative shown.enough in_region shown.leave long nonzero;
           columns = λ column other free. column_no_wider (pulled_form frame.to_work (work_form work form)) size column other in_region (shown.wide column (subst (λ (m : ℕ). column < m) (length-rows_in frame.to_work.lines) free.there)) free;
+        }
+
+    -- In one coordinate each primitive form is a direction.
+    pub direction_in_one : (form : List ℤ) → 0 < length points → dimension_of frame ≡ 1 → common_divisor (pulled_form frame.to_work (work_form work form)) ≡ 1 → IsDirection (IsInNode frame work cut) (dimension_of frame) (rows_in frame.to_work.lines) (pulled_form frame.to_work (work_form work form))
+    direction_in_one form some_points one lowest =
+        let c = all_coordinates model work frame path cut limits shaped framed points are in
+        let pulled = pulled_form frame.to_work (work_form work form) in
+        let width = HasWidth-rows_in frame.to_work.lines shaped.size_lines in
+        let long = Matrix.length-combination integers (dimension_of frame) (work_form work form) (rows_in frame.to_work.lines) width in
+        let there = All-get_or (IsInNode frame work cut) c.ys 0 [] (omega (arith, c.as_many, some_points)) c.there in
+        let primitive = primitive_by pulled lowest in
+        record {
+          some = omega (arith, one);
+          point = get_or c.ys 0 [];
+          has_point = there;
+          coordinates = long;
+          primitive = primitive;
+          thin = λ other wide nonzero. subst (λ (r : ℕ). IsNoWiderThan (4 ^ (r - 1)) (IsInNode frame work cut) pulled other) (sym one) (one_coordinate (IsInNode frame work cut) pulled other (get_or c.ys 0 []) there (long ∙ one) primitive (wide ∙ one) nonzero);
+          columns = λ column other free. one_coordinate (IsInNode frame work cut) pulled other (get_or c.ys 0 []) there (long ∙ one) primitive (sym (Matrix.length-scale integers (pos free.divisor) other) ∙ ap (λ (l : List ℤ). length l) (sym free.line) ∙ Matrix.HasWidth-at integers (dimension_of frame) (rows_in frame.to_work.lines) column [] width free.there ∙ one) (primitive_nonzero other free.primitive);
         }

@@ -1,12 +1,12 @@
 -- The sides of a node, by what is found of their forms.
-use Rattle.std.proofs.Common.{◌≡◌, ⊎_elim, inl, inr, ℕ, ◌+◌, ◌<◌, ◌≤◌, Bool, true, false, List, [], ◌∷◌, ◌++◌, length, get_or, ℤ, pos, neg_ℤ, nat_abs, ◌-ℤ◌, ◌≤ℤ◌, map, refl, ap, sym, subst, ◌∙◌, arith}
+use Rattle.std.proofs.Common.{◌≡◌, ⊎_elim, inl, inr, ℕ, ◌+◌, ◌<◌, ◌≤◌, true, List, [], ◌∷◌, length, get_or, ℤ, pos, neg_ℤ, nat_abs, ◌-ℤ◌, ◌≤ℤ◌, refl, ap, sym, subst, ◌∙◌, arith}
 use Rattle.std.specs.Prelude.{◌⊎◌, Option, Some, None, IfSome, is_some, unwrap_or, All}
 use Rattle.std.proofs.lemmas.List.Elements.{All-nil, All-cons, All-append, All-get_or, All-from_get_or}
 use Rattle.exact_math.specs.GcdLaws.{nat_abs-neg_ℤ}
 use Rattle.exact_math.specs.Ring.{integers}
 use Rattle.exact_math.specs.Rational.{ℚ}
-use Rattle.exact_vectors.specs.Vectors.{dot, negate}
-use Rattle.exact_vectors.specs.Matrices.{HasWidth, column, combination}
+use Rattle.exact_vectors.specs.Vectors.{negate}
+use Rattle.exact_vectors.specs.Matrices.{HasWidth, column}
 use Rattle.exact_vectors.specs.DotLaws as Dot
 use Rattle.exact_vectors.specs.MatrixLaws as Matrix
 use Rattle.whole_rows.specs.WholeRows.{row_at, bounds_at}
@@ -17,9 +17,8 @@ use Rattle.spaces.specs.Tables.{rows_in}
 use Rattle.spaces.specs.Tables as tables
 use Rattle.presolve_map.specs.ReducedRows.{ReducedRows}
 use Rattle.farkas_lift.specs.NodeEqualities.{common_side}
-use Rattle.farkas_lift.specs.NodeSides.{column_sides, cut_side, inequality_of, row_sides, side_with, sides_unless}
+use Rattle.farkas_lift.specs.NodeSides.{column_sides, cut_side, row_sides, side_with, sides_unless}
 use Rattle.farkas_lift.specs.NodeSystem.{cut_of}
-use Rattle.farkas_lift.specs.declared.side.NodeSide.{NodeSide}
 use Rattle.farkas_lift.specs.declared.side.NodeSide.TheVariants.{RowAtMost, RowAtLeast, ColumnAtMost, ColumnAtLeast, Cut}
 use Rattle.shown_widths.specs.Steps.{BothLeave, IsLightAlong, IsWideEnough, LeavesRoomAlong, SideLeaves}
 use Rattle.shown_widths.specs.declared.room.Width.{Width}

@@ -1,20 +1,18 @@
 -- Slacks that are counted in parts of a unit.
-use Rattle.std.proofs.Common.{◌≡◌, ℕ, zero, suc, ◌+◌, ◌<◌, List, [], ◌∷◌, ◌++◌, length, get_or, take, ℤ, pos, negsuc, ◌+ℤ◌, ◌-ℤ◌, ◌*ℤ◌, ◌≤ℤ◌, ◌<ℤ◌, map, refl, ap, ap₂, sym, subst, subst₂, ◌∙◌, arith}
+use Rattle.std.proofs.Common.{◌≡◌, ℕ, ◌+◌, ◌<◌, List, [], ◌∷◌, length, get_or, take, ℤ, pos, negsuc, ◌+ℤ◌, ◌-ℤ◌, ◌*ℤ◌, ◌≤ℤ◌, ◌<ℤ◌, map, refl, ap, sym, subst₂, ◌∙◌}
 use Rattle.std.specs.Int.{int_div_euclid}
 use Rattle.std.proofs.lemmas.List.{map_more, map-append}
-use Rattle.exact_math.specs.IntegerLaws as Z
 use Rattle.exact_math.specs.IntegerRing.{linear}
 use Rattle.exact_math.specs.QuotientLaws.{floor_div_below}
 use Rattle.exact_math.specs.Ring.{integers}
-use Rattle.exact_math.specs.RingLaws as Laws
 use Rattle.exact_math.specs.RingSolver.{ring, reads}
 use Rattle.exact_math.specs.Rational.{ℚ, whole, ◌+ℚ◌, ◌*ℚ◌, ◌≤ℚ◌}
 use Rattle.exact_math.specs.RationalOrder.{add_le}
 use Rattle.exact_math.specs.RationalRing.{rationals, whole_add}
-use Rattle.exact_vectors.specs.Vectors.{dot, negate, sum}
+use Rattle.exact_vectors.specs.Vectors.{dot, sum}
 use Rattle.exact_vectors.specs.DotLaws as Dot
 use Rattle.exact_vectors.specs.SumLaws.{sum-append}
-use Rattle.farkas_rows.specs.Inequalities.{Inequality, at_least, at_most}
+use Rattle.farkas_rows.specs.Inequalities.{at_least}
 use Rattle.node_point.specs.NodePoints.{Fractions}
 use Rattle.shown_widths.specs.Points.{gap_of}
 

@@ -1,4 +1,5 @@
 pub mod Columns
+pub mod Limits
 pub mod Points
 pub mod Steps
 pub mod Thin

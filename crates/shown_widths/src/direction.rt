@@ -1,26 +1,22 @@
 //! Whether a form is a direction of a node, shown by points and lines alone.
-ghost use Rattle.std.specs.Prelude.{◌≡◌, ◌<◌, pos, length, IfOk, IfSome, IsTrue, All};
-ghost use Rattle.exact_math.specs.Rational.{whole, ◌*ℚ◌, ◌≤ℚ◌};
-ghost use Rattle.farkas_rows.specs.Refutes.{HasForms};
+ghost use Rattle.std.specs.Prelude.{◌≡◌, ◌<◌, length, IfOk, IfSome, IsTrue, All};
 ghost use Rattle.spaces.specs.Maps.{pulled_form};
 ghost use Rattle.spaces.specs.Tables.{rows_in};
 ghost use Rattle.form_widths.specs.Directions.{IsDirection};
-ghost use Rattle.form_widths.specs.Widths.{IsBoundOn};
 ghost use Rattle.node_point.specs.NodePoints.{IsNodePoint};
-ghost use Rattle.node_point.specs.RationalPoints.{IsRationalPoint};
 ghost use Rattle.proof_tree.specs.Moves.{SplitsUnder};
 ghost use Rattle.reformulate.specs.Substitutions.{columns_of, dimension_of};
 ghost use Rattle.farkas_lift.specs.NodeEqualities.{work_form};
-ghost use Rattle.node_regions.specs.RegionPoints.{IsFramedNode};
+ghost use Rattle.node_lines.specs.NodeSystems.{IsFramedNode};
 ghost use Rattle.node_regions.specs.NodeRegions.{IsInNode};
 ghost use Rattle.shown_widths.specs.Thin.{IsThinBy};
 
 use crate::columns::{are_wide, divisor_of};
-use crate::node::Node;
 use crate::point::{WorkPoint, work_points, work_values};
 use crate::room::{Trial, Width, all_leave, factor_in, units_of};
 use crate::width::width_of;
 use frac128::Frac;
+use node_lines::Node;
 use node_point::NodePoint;
 use proof_tree::Cut;
 use sequence::NoMemory;
@@ -76,7 +72,8 @@ fn is_thin(
 ///
 /// The width of the form is read off the lines. It is compared with the room of the mean of the points in each coordinate of the
 /// frame, times 4^(r-1), and with the difference of two points in each free column. A form that is a direction may be answered
-/// to be none: where the points are too few, or a number leaves 128 bits.
+/// to be none: where the points are too few, a line does not use its end, or a number leaves 128 bits. In one coordinate each
+/// primitive form is a direction.
 pub fn is_direction<'a>(
     alloc: Global,
     node: Node<'a>,
@@ -103,6 +100,9 @@ pub fn is_direction<'a>(
     };
     if divisor != 1 {
         return Ok(false);
+    }
+    if node.frame.dimension() == 1 {
+        return Ok(true);
     }
     let Some(width) = width_of(node, cut) else {
         return Ok(false);

@@ -6,11 +6,10 @@
 
 mod columns;
 mod direction;
-mod node;
+mod limits;
 mod point;
 mod room;
 mod side;
 mod width;
 
 pub use direction::is_direction;
-pub use node::Node;

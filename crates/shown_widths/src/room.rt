@@ -11,11 +11,11 @@ ghost use Rattle.reformulate.specs.Substitutions.{columns_of, IsSubstitution};
 ghost use Rattle.shown_widths.specs.Points.{bounded, form_of, IsLeftOver};
 ghost use Rattle.shown_widths.specs.Steps.{parts, width_parts, AllLeave, BothLeave, IsFactorIn, IsLightAlong, IsWideEnough, SideLeaves};
 
-use crate::node::Node;
 use crate::point::WorkPoint;
 use crate::side::{Bound, LeftSide, slack_sum};
 use farkas_lift::common_side;
 use frac128::Frac;
+use node_lines::Node;
 use reformulate::Frame;
 use sequence::NoMemory;
 use spaces::{Form, MapStop};

@@ -1,100 +1,59 @@
 -- What a brancher's places say of nodes.
-use Rattle.std.proofs.Common.{◌≡◌, ℕ, ◌+◌, ◌-◌, ◌*◌, ◌^◌, ◌≤◌, ℤ, pos, ◌+ℤ◌, ◌≤ℤ◌, ◌<ℤ◌, false, true, List, length, refl, subst, sym, ◌∙◌, arith}
+use Rattle.std.proofs.Common.{◌≡◌, ℕ, ◌+◌, ◌-◌, ◌*◌, ◌^◌, ◌≤◌, ℤ, pos, ◌+ℤ◌, ◌≤ℤ◌, ◌<ℤ◌, false, true, List, [], ◌∷◌, length, refl, subst, sym, ap, ◌∙◌, arith}
 use Rattle.std.specs.Prelude.{Option}
+use Rattle.exact_math.specs.IntegerRing.{linear}
 use Rattle.whole_rows.specs.WholeRows.{WholeRows}
 use Rattle.farkas_rows.specs.declared.path.Slice.{Slice}
 use Rattle.proof_tree.specs.declared.tree.Cut.{Cut}
 use Rattle.proof_tree.specs.declared.tree.Mark.TheVariants as marks
-use Rattle.proof_tree.specs.declared.tree.Move.{Move}
 use Rattle.proof_tree.specs.declared.tree.Move.TheVariants as moves
 use Rattle.proof_tree.specs.Trees.{IsShort, on_slice}
 use Rattle.proof_tree.specs.Moves.{widest, Branches, IsChildOf, IsMove}
-use Rattle.plain_slices.specs.PlainMoves.{IsPlainAnswer, IsPlainMove}
+use Rattle.plain_slices.specs.PlainMoves.{IsPlainMove}
+use Rattle.exact_nodes.specs.ThinMoves.{IsThinAlong, IsThinBy, IsThinMove}
+use Rattle.exact_nodes.specs.ThinMoves.IsThinBy.{gap, along}
+use Rattle.node_slices.specs.SliceNodes.{IsSlicedNode}
 use Rattle.slice_branch.specs.declared.place.Node.{Node}
 use Rattle.slice_branch.specs.declared.place.Place.{Place}
 use Rattle.slice_branch.specs.declared.place.Place.TheVariants.{Settled, Framed, Plain}
-use Rattle.slice_branch.specs.Framed.{IsAllowed, IsFramedMove, IsMarked, IsThinMove}
-use Rattle.slice_branch.specs.NodeFrames.{IsNodeFrame}
-use Rattle.slice_branch.specs.Places.{height_of, is_plain_place, plain_from, IsKept, IsPathWithin, IsPlainFrom, IsSettledBy, StandsFor}
-use Rattle.slice_branch.proofs.PlaceLaws.{begins_plain, below_framed, longer, lower_framed, move_of_framed, turns_lower, turns_plain, widest_is_small}
+use Rattle.slice_branch.specs.ExcusedPaths.{excused_below}
+use Rattle.slice_branch.specs.Framed.{IsAllowed, IsMarked}
+use Rattle.slice_branch.specs.Places.{height_of, is_plain_place, IsFramedPlace, IsPathWithin, IsPlainFrom, IsSlicePlace, StandsFor}
+use Rattle.slice_branch.proofs.PlaceLaws.{begins_plain, longer, lower_framed, size, turns_plain, widest_is_small, within_slice}
 use Rattle.slice_branch.proofs.PlaceLaws as place_laws
-use Rattle.slice_branch.proofs.PlainLaws.{below_plain, lower_plain, move_of_plain}
+use Rattle.slice_branch.proofs.PlainLaws.{below_plain, lower_plain}
 
 module _ (rows : WholeRows) (path : List Slice) (best : Option ℤ) where
   -- the path of a place keeps the limits
   pub within_of : (place : Place) → StandsFor rows place path best → IsPathWithin rows path
-  within_of (Settled move) here = here.0.within
-  within_of (Framed node) here = here.0.within
-  within_of (Plain depth) here = here.within
+  within_of (Settled move) here = here.0
+  within_of (Framed node) here = here.within
+  within_of (Plain depth) here = here.0.within
 
   pub short_of : (place : Place) → StandsFor rows place path best → IsShort rows path
-  short_of (Settled move) here = let s = here.0.short in omega (arith, s)
-  short_of (Framed node) here = let s = here.0.short in omega (arith, s)
-  short_of (Plain depth) here = let s = here.short in let e = here.early in omega (arith, s, e)
+  short_of (Settled move) here = omega (arith, ap length here.1)
+  short_of (Framed node) here = let s = here.short in omega (arith, s)
+  short_of (Plain depth) here = let s = here.0.short in let e = here.0.early in omega (arith, s, e)
 
   pub small_of : (place : Place) → StandsFor rows place path best → widest rows.box ≤ 2 ^ 97
   small_of place here = widest_is_small rows.box (within_of place here).limits.light.reaches
 
-  -- a place that is kept still stands for its node, at the same height
-  pub kept_stands : (old new : Place) → IsKept old new → StandsFor rows old path best → StandsFor rows new path best
-  kept_stands (Settled move) (Settled other) kept here = (here.0, here.1, subst (IsSettledBy rows) (sym kept) tt)
-  kept_stands (Settled move) (Framed node) kept here = absurd kept
-  kept_stands (Settled move) (Plain depth) kept here = absurd kept
-  kept_stands (Framed node) (Settled move) kept here = absurd kept
-  kept_stands (Framed node) (Framed other) kept here = (here.0, here.1 ∙ sym kept.0, subst (IsNodeFrame rows path) (sym kept.1) here.2)
-  kept_stands (Framed node) (Plain depth) kept here = absurd kept
-  kept_stands (Plain depth) (Settled move) kept here = absurd kept
-  kept_stands (Plain depth) (Framed node) kept here = absurd kept
-  kept_stands (Plain depth) (Plain other) kept here = subst (λ d. IsPlainFrom rows d path) (sym kept) here
+-- a node with the same frame, to which as many slices lead
+pub kept_node : (rows : WholeRows) (path : List Slice) (old new : Node) → new.depth ≡ old.depth → new.frame ≡ old.frame → IsFramedPlace rows old path → IsFramedPlace rows new path
+kept_node rows path old new depth frame here = record {
+  within = here.within;
+  not_closed = here.not_closed;
+  depth = here.depth ∙ sym depth;
+  of_node = rw frame here.of_node;
+  short = rw frame here.short;
+}
 
-  pub kept_height : (old new : Place) → IsKept old new → height_of rows new path ≡ height_of rows old path
-  kept_height (Settled move) (Settled other) kept = refl
-  kept_height (Settled move) (Framed node) kept = absurd kept
-  kept_height (Settled move) (Plain depth) kept = absurd kept
-  kept_height (Framed node) (Settled move) kept = absurd kept
-  kept_height (Framed node) (Framed other) kept = refl
-  kept_height (Framed node) (Plain depth) kept = absurd kept
-  kept_height (Plain depth) (Settled move) kept = absurd kept
-  kept_height (Plain depth) (Framed node) kept = absurd kept
-  kept_height (Plain depth) (Plain other) kept = rw kept refl
+-- a node with a frame becomes the first that is split by single columns, no higher
+pub turned : (rows : WholeRows) (path : List Slice) (node : Node) → IsFramedPlace rows node path → IsPlainFrom rows (length path) path
+turned rows path node here = turns_plain rows path here.within (let s = here.short in omega (arith, s))
 
-  pub kept_plain : (old new : Place) → IsKept old new → is_plain_place new ≡ is_plain_place old
-  kept_plain (Settled move) (Settled other) kept = refl
-  kept_plain (Settled move) (Framed node) kept = absurd kept
-  kept_plain (Settled move) (Plain depth) kept = absurd kept
-  kept_plain (Framed node) (Settled move) kept = absurd kept
-  kept_plain (Framed node) (Framed other) kept = refl
-  kept_plain (Framed node) (Plain depth) kept = absurd kept
-  kept_plain (Plain depth) (Settled move) kept = absurd kept
-  kept_plain (Plain depth) (Framed node) kept = absurd kept
-  kept_plain (Plain depth) (Plain other) kept = refl
-
-  -- a move along a thin direction is one of a place that is not plain
-  pub framed_at : (place : Place) → is_plain_place place ≡ false → StandsFor rows place path best → (move : Move) → IsFramedMove rows path best move → IsMove rows path best (height_of rows place path) (is_plain_place place) move
-  framed_at (Settled other) thin here move h = move_of_framed rows path best here.0 move h
-  framed_at (Framed node) thin here move h = move_of_framed rows path best here.0 move h
-  framed_at (Plain depth) thin here move h = absurd (cc thin)
-
-  -- a place that turns plain stands for its node, no higher, and a plain answer is a move there
-  pub turned_stands : (place : Place) → StandsFor rows place path best → StandsFor rows (plain_from (length path) place) path best
-  turned_stands (Settled move) here = turns_plain rows path here.0
-  turned_stands (Framed node) here = turns_plain rows path here.0
-  turned_stands (Plain depth) here = here
-
-  pub turned_height : (place : Place) → StandsFor rows place path best → height_of rows (plain_from (length path) place) path ≤ height_of rows place path
-  turned_height (Settled move) here = turns_lower rows path here.0
-  turned_height (Framed node) here = turns_lower rows path here.0
-  turned_height (Plain depth) here = omega arith
-
-  pub turned_plain : (depth : ℕ) (place : Place) → is_plain_place (plain_from depth place) ≡ true
-  turned_plain depth (Settled move) = refl
-  turned_plain depth (Framed node) = refl
-  turned_plain depth (Plain other) = refl
-
-  pub plain_at : (place : Place) → is_plain_place place ≡ true → StandsFor rows place path best → (move : Move) → IsPlainAnswer rows path best move → IsMove rows path best (height_of rows place path) (is_plain_place place) move
-  plain_at (Settled other) plain here move h = absurd (cc plain)
-  plain_at (Framed node) plain here move h = absurd (cc plain)
-  plain_at (Plain depth) plain here move h = move_of_plain rows depth path here best move h
+pub turned_lower : (rows : WholeRows) (path : List Slice) (node : Node) → IsFramedPlace rows node path → (length path + length rows.box) - length path ≤ 2 * length rows.box - length path
+turned_lower rows path node here = let s = here.short in omega (arith, s)
 
 -- the mark of a split that is chosen at a place
 thin_mark : (rows : WholeRows) (path : List Slice) (best : Option ℤ) (cut : Cut) (height : ℕ) → IsMove rows path best height false (moves.Split cut) → IsMarked rows path best cut cut.mark → IsThinMove rows path best cut
@@ -104,7 +63,12 @@ thin_mark rows path best cut height chosen marked = by_mark cut.mark refl marked
   by_mark marks.Plain is m = absurd (cc (chosen.2.0 is))
 
 plain_mark : (rows : WholeRows) (path : List Slice) (best : Option ℤ) (cut : Cut) (height : ℕ) → IsMove rows path best height true (moves.Split cut) → IsMarked rows path best cut cut.mark → IsPlainMove rows path best cut
-plain_mark rows path best cut height chosen marked = subst (IsMarked rows path best cut) (chosen.2.1 refl) marked
+plain_mark rows path best cut height chosen marked = let m = subst (IsMarked rows path best cut) (chosen.2.1 refl) marked in m.0
+
+-- a thin split with a slice is along a direction
+thin_with_slice : (rows : WholeRows) (path : List Slice) (best : Option ℤ) (cut : Cut) → pos 1 ≤ℤ cut.count → IsThinBy rows path best cut → IsThinAlong rows path best cut
+thin_with_slice rows path best cut some (gap h) = absurd (omega (linear, h.none, some))
+thin_with_slice rows path best cut some (along h) = h
 
 module _ (rows : WholeRows) (cut : Cut) (j : ℤ) (first : pos 0 ≤ℤ j) (last : j <ℤ cut.count) (path : List Slice) (best : Option ℤ) where
   abbrev Below : Place → Place → Type 0
@@ -113,37 +77,54 @@ module _ (rows : WholeRows) (cut : Cut) (j : ℤ) (first : pos 0 ≤ℤ j) (last
   abbrev At : Place → Type 0
   At parent = Branches StandsFor height_of is_plain_place IsAllowed rows parent cut path best
 
+  -- a settled root has no slices
+  pub settled_ends : (move : _) → At (Settled move) → ⊥
+  settled_ends move b = let h = b.chosen.1 (omega (linear, first, last)) in omega (arith, h)
+
   -- the slices of a plain place
   pub plain_child : (depth : ℕ) → At (Plain depth) → Below (Plain depth) (Plain depth)
   plain_child depth b =
       let move = plain_mark rows path best cut (height_of rows (Plain depth) path) b.chosen b.allowed.1 in record {
-        here = λ other plain. below_plain rows depth path plain best cut j move b.allowed.0 first last;
-        lower = lower_plain rows depth path b.here best cut j move b.allowed.0 first last;
+        here = λ other plain. (below_plain rows depth path plain.0 best cut j move b.allowed.0 first last, excused_below rows path (record { form = cut.form; beta = cut.lo +ℤ j } ∷ []) other plain.1);
+        lower = lower_plain rows depth path b.here.0 best cut j move b.allowed.0 first last;
         plain = λ h. refl;
       }
 
-  -- the slices of a node with a frame, with a frame or without
-  pub framed_child : (node child : Node) → child.depth ≡ node.depth + 1 → (IsNodeFrame rows path node.frame → IsNodeFrame rows (on_slice path cut.form (cut.lo +ℤ j)) child.frame) → At (Framed node) → Below (Framed node) (Framed child)
-  framed_child node child deeper sliced b =
-      let thin = thin_mark rows path best cut (height_of rows (Framed node) path) b.chosen b.allowed.1 in record {
-        here = λ other framed. (below_framed rows path best cut j framed.0.within b.allowed.0 first last thin, longer rows path best cut j framed.0.within b.allowed.0 first last ∙ omega (arith, framed.1, deeper), sliced framed.2);
-        lower = lower_framed rows path best cut j b.here.0.within b.allowed.0 first last thin;
+  -- the node of a slice of a node with a frame
+  pub sliced_node : (node : Node) → At (Framed node) → IsSlicedNode rows node.frame cut.form (cut.lo +ℤ j) path
+  sliced_node node b =
+      let thin = thin_mark rows path best cut (height_of rows (Framed node) path) b.chosen b.allowed.1 in
+      let along_it = thin_with_slice rows path best cut (omega (linear, first, last)) thin.cause in
+      record {
+        of_node = b.here.of_node;
+        kept = along_it.kept;
+        primitive = record { frame = along_it.frame; of_node = along_it.of_node; primitive = along_it.direction.primitive };
+        light = b.allowed.0.form.light;
+        size = size rows path best cut j b.here.within b.allowed.0 first last;
+      }
+
+  -- and its place
+  pub framed_child : (node : Node) (child : Place) → IsSlicePlace rows node (on_slice path cut.form (cut.lo +ℤ j)) child → At (Framed node) → Below (Framed node) child
+  framed_child node (Settled move) is b = absurd is
+  framed_child node (Framed child) is b =
+      let thin = thin_mark rows path best cut (height_of rows (Framed node) path) b.chosen b.allowed.1 in
+      let more = longer rows path best cut j b.here.within b.allowed.0 first last in
+      record {
+        here = λ other framed. record {
+          within = within_slice rows path best cut j framed.within b.allowed.0 first last;
+          not_closed = framed.not_closed;
+          depth = let d = framed.depth in omega (arith, more, d, is.0);
+          of_node = is.1;
+          short = let s = framed.short in omega (arith, more, s, is.2);
+        };
+        lower = lower_framed rows path best cut j b.here.within b.allowed.0 first last thin;
         plain = λ h. absurd (cc h);
       }
-
-  pub framed_falls : (node : Node) → At (Framed node) → Below (Framed node) (Plain (node.depth + 1))
-  framed_falls node b =
-      let thin = thin_mark rows path best cut (height_of rows (Framed node) path) b.chosen b.allowed.1 in record {
-        here = λ other framed. subst (λ d. IsPlainFrom rows (d + 1) (on_slice path cut.form (cut.lo +ℤ j))) framed.1 (begins_plain rows path best cut j framed.0.within b.allowed.0 first last thin);
-        lower = subst (λ d. (((d + 1) + length rows.box) - length (on_slice path cut.form (cut.lo +ℤ j))) + 1 ≤ 2 * length rows.box - length path) b.here.1 (place_laws.lower_plain rows path best cut j b.here.0.within b.allowed.0 first last thin);
-        plain = λ h. refl;
-      }
-
-  -- the slices of a root that is settled
-  pub settled_falls : (move : _) → At (Settled move) → Below (Settled move) (Plain 1)
-  settled_falls move b =
-      let thin = thin_mark rows path best cut (height_of rows (Settled move) path) b.chosen b.allowed.1 in record {
-        here = λ other settled. subst (λ d. IsPlainFrom rows (d + 1) (on_slice path cut.form (cut.lo +ℤ j))) settled.1 (begins_plain rows path best cut j settled.0.within b.allowed.0 first last thin);
-        lower = subst (λ d. (((d + 1) + length rows.box) - length (on_slice path cut.form (cut.lo +ℤ j))) + 1 ≤ 2 * length rows.box - length path) b.here.1 (place_laws.lower_plain rows path best cut j b.here.0.within b.allowed.0 first last thin);
+  framed_child node (Plain depth) is b =
+      let thin = thin_mark rows path best cut (height_of rows (Framed node) path) b.chosen b.allowed.1 in
+      let deeper : depth ≡ length path + 1 = let d = b.here.depth in omega (arith, d, is.0) in
+      record {
+        here = λ other framed. (subst (λ d. IsPlainFrom rows d (on_slice path cut.form (cut.lo +ℤ j))) (sym deeper) (begins_plain rows path best cut j framed.within b.allowed.0 first last thin), is.1 other);
+        lower = subst (λ d. ((d + length rows.box) - length (on_slice path cut.form (cut.lo +ℤ j))) + 1 ≤ 2 * length rows.box - length path) (sym deeper) (place_laws.lower_plain rows path best cut j b.here.within b.allowed.0 first last thin);
         plain = λ h. refl;
       }

@@ -1,8 +1,6 @@
 mod BrancherLaws
-mod ChildLaws
-mod KeptForms
-mod LiftedForms
+mod DimensionLaws
+mod FramedLaws
 mod PlaceLaws
 mod PlainLaws
-mod ReachLaws
 mod ShownLaws

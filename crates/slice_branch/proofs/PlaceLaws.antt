@@ -1,6 +1,6 @@
 -- Nodes that are split along thin directions.
 use Rattle.std.proofs.Common.{◌≡◌, ℕ, ◌+◌, ◌-◌, ◌*◌, ◌^◌, ◌≤◌, ℤ, pos, negsuc, neg_ℤ, ◌+ℤ◌, ◌-ℤ◌, ◌≤ℤ◌, ◌<ℤ◌, false, List, [], ◌∷◌, length, refl, subst, sym, arith}
-use Rattle.std.specs.Prelude.{Option, All, nat_abs, Result, Ok, Err, IfOk, FitsSigned}
+use Rattle.std.specs.Prelude.{Option, None, All, nat_abs, Result, Ok, Err, IfOk, FitsSigned}
 use Rattle.std.specs.Int.{w128}
 use Rattle.std.proofs.lemmas.Int.{fits_signed_from_abs}
 use Rattle.std.proofs.lemmas.List.Elements.{All-nil, All-head, All-tail}
@@ -15,26 +15,53 @@ use Rattle.proof_tree.specs.declared.tree.Move.{Move}
 use Rattle.proof_tree.specs.declared.tree.Move.TheVariants.{Close, Split, Point}
 use Rattle.proof_tree.specs.Trees.{IsOfSize, on_slice}
 use Rattle.proof_tree.specs.Moves.{widest, nonnegative_part, SplitsUnder, IsMove}
-use Rattle.slice_branch.specs.Framed.{IsFramedMove, IsAllowed, IsMarked, IsThinMove}
+use Rattle.exact_nodes.specs.ThinMoves.{IsThinMove}
+use Rattle.exact_nodes.specs.ThinMoves.IsThinBy.{gap}
+use Rattle.root_gaps.specs.GapMoves.{IsGapMove}
+use Rattle.root_gaps.specs.declared.outcome.GapMove.TheVariants as gap_moves
+use Rattle.slice_branch.specs.Framed.{IsFramedMove, IsAllowed, IsMarked}
 use Rattle.node_search.specs.declared.directions.ends.Direction.{Direction}
 use Rattle.slice_branch.specs.declared.place.Place.{Place}
 use Rattle.slice_branch.specs.declared.place.Place.TheVariants as places
-use Rattle.slice_branch.specs.Directions.{IsDirection}
-use Rattle.slice_branch.specs.Places.{IsFramedPath, IsPathWithin, IsPlainFrom, IsRootPlace, StandsFor}
+use Rattle.slice_branch.specs.ClosedEnds.{HasClosedEnds}
+use Rattle.slice_branch.specs.declared.place.Settled.{Settled}
+use Rattle.slice_branch.specs.declared.place.Settled.TheVariants.{Closed, Gap}
+use Rattle.slice_branch.specs.Places.{IsPathWithin, IsPlainFrom, IsRootPlace, IsSettledBy, StandsFor}
+use Rattle.slice_branch.specs.Settling.{move_of}
 use Rattle.slice_branch.proofs.PlainLaws.{within-more}
 
 module _ (rows : WholeRows) (path : List Slice) (best : Option ℤ) where
   -- a move along a thin direction is one of the node
-  pub move_of_framed : IsFramedPath rows path → (move : Move) → IsFramedMove rows path best move → IsMove rows path best (2 * length rows.box - length path) false move
-  move_of_framed framed (Close line) h = h
-  move_of_framed framed (Split cut) h = (h.0, (λ some. let d = h.1.short some in omega (arith, d)), ((λ plain. absurd (cc (h.2, plain))), (λ t. absurd (cc t))))
-  move_of_framed framed (Point x) h = h
+  pub move_of_framed : (move : Move) → IsFramedMove rows path best move → IsMove rows path best (2 * length rows.box - length path) false move
+  move_of_framed (Close line) h = h
+  move_of_framed (Split cut) h = (h.0, (λ some. let d = h.1.short some in omega (arith, d)), ((λ plain. absurd (cc (h.2, plain))), (λ t. absurd (cc t))))
+  move_of_framed (Point x) h = h
 
   -- and is allowed
   pub framed_is_allowed : (move : Move) → IsFramedMove rows path best move → IsAllowed rows path best move
   framed_is_allowed (Close line) h = h
   framed_is_allowed (Split cut) h = (h.0, subst (IsMarked rows path best cut) (sym h.2) h.1)
   framed_is_allowed (Point x) h = h
+
+-- so is the move that settles a root
+module _ (rows : WholeRows) (best : Option ℤ) where
+  gap_thin : (cut : Cut) → IsGapMove rows best (gap_moves.Split cut) → IsThinMove rows [] best cut
+  gap_thin cut h = record { short = λ some. absurd (omega (linear, h.1.none, some)); cause = gap h.1 }
+
+  settled_chosen : (settled : Settled) → IsSettledBy rows settled → IsMove rows [] best 0 false (move_of settled)
+  settled_chosen (Closed line) h = h best
+  settled_chosen (Gap cut) h = let g = h best in (g.0, (λ some. absurd (omega (linear, g.1.none, some))), ((λ plain. absurd (cc (g.2, plain))), (λ t. absurd (cc t))))
+
+  settled_allowed : (settled : Settled) → IsSettledBy rows settled → IsAllowed rows [] best (move_of settled)
+  settled_allowed (Closed line) h = h best
+  settled_allowed (Gap cut) h = let g = h best in (g.0, subst (IsMarked rows [] best cut) (sym g.2) (gap_thin cut g))
+
+  module _ (path : List Slice) (root : path ≡ []) (settled : Settled) (is : IsSettledBy rows settled) where
+    pub chosen_at_root : IsMove rows path best 0 false (move_of settled)
+    chosen_at_root = subst (λ (p : List Slice). IsMove rows p best 0 false (move_of settled)) (sym root) (settled_chosen settled is)
+
+    pub allowed_at_root : IsAllowed rows path best (move_of settled)
+    allowed_at_root = subst (λ (p : List Slice). IsAllowed rows p best (move_of settled)) (sym root) (settled_allowed settled is)
 
 -- the difference between two bounds within the limits
 difference : (b : Bounds) → reach b ≤ 2 ^ 96 → (b.high -ℤ b.low) ≤ℤ pos (2 ^ 97)
@@ -56,7 +83,7 @@ widest_is_small (b ∷ box) h =
     omega (arith, first, rest)
 
 module _ (rows : WholeRows) (path : List Slice) (best : Option ℤ) (cut : Cut) (j : ℤ) (within : IsPathWithin rows path) (splits : SplitsUnder rows best path cut) (first : pos 0 ≤ℤ j) (last : j <ℤ cut.count) where
-  size : IsOfSize (2 ^ 98) (cut.lo +ℤ j)
+  pub size : IsOfSize (2 ^ 98) (cut.lo +ℤ j)
   size =
       let wide = widest_is_small rows.box within.limits.light.reaches in
       (omega (linear, first, splits.lo.0), omega (linear, last, splits.lo.1, splits.narrow, wide))
@@ -72,11 +99,7 @@ module _ (rows : WholeRows) (path : List Slice) (best : Option ℤ) (cut : Cut) 
   some = omega (linear, first, last)
 
   module _ (thin : IsThinMove rows path best cut) where
-    -- the path of a slice along a thin direction
-    pub below_framed : IsFramedPath rows (on_slice path cut.form (cut.lo +ℤ j))
-    below_framed = record { within = within_slice; short = let t = thin.short some in omega (arith, longer, t) }
-
-    -- and the same as the first of a node that is split by single columns
+    -- the first slice of a node that is split by single columns, below one that is split along a thin direction
     pub begins_plain : IsPlainFrom rows (length path + 1) (on_slice path cut.form (cut.lo +ℤ j))
     begins_plain = record {
       within = within_slice;
@@ -93,20 +116,17 @@ module _ (rows : WholeRows) (path : List Slice) (best : Option ℤ) (cut : Cut) 
     lower_plain = let t = thin.short some in omega (arith, longer, t)
 
 -- a node that was split along thin directions becomes the first that is split by single columns
-pub turns_plain : (rows : WholeRows) (path : List Slice) → IsFramedPath rows path → IsPlainFrom rows (length path) path
-turns_plain rows path framed = record {
-  within = framed.within;
-  early = framed.short;
+pub turns_plain : (rows : WholeRows) (path : List Slice) → IsPathWithin rows path → length path ≤ length rows.box → IsPlainFrom rows (length path) path
+turns_plain rows path within few = record {
+  within = within;
+  early = few;
   behind = omega arith;
   short = omega arith;
   fixed = λ column h. absurd (omega (arith, h));
 }
 
-pub turns_lower : (rows : WholeRows) (path : List Slice) → IsFramedPath rows path → (length path + length rows.box) - length path ≤ 2 * length rows.box - length path
-turns_lower rows path framed = let s = framed.short in omega (arith, s)
-
 -- a direction that passes its checks makes a split
-pub direction_splits : (rows : WholeRows) (path : List Slice) (best : Option ℤ) (d : Direction) → widest rows.box ≤ 2 ^ 97 → IsDirection rows best path d → SplitsUnder rows best path (record { form = d.form; lo = d.lo; count = d.count; below = d.below; above = d.above; mark = Thin })
+pub direction_splits : (rows : WholeRows) (path : List Slice) (best : Option ℤ) (d : Direction) → widest rows.box ≤ 2 ^ 97 → HasClosedEnds rows best path d → SplitsUnder rows best path (record { form = d.form; lo = d.lo; count = d.count; below = d.below; above = d.above; mark = Thin })
 direction_splits rows path best d small h = record {
   form = h.form;
   lo = h.lo;
@@ -128,6 +148,12 @@ sum_fits lo count w a b d e f =
     let size : nat_abs (lo +ℤ count) ≤ 2 ^ 99 = size_within (lo +ℤ count) low high in
     fits_signed_from_abs w128 (lo +ℤ count) (omega (arith, size))
 
+-- so has each value of a slice
+pub size_fits : (z : ℤ) → IsOfSize (2 ^ 98) z → FitsSigned w128 z
+size_fits z h =
+    let size : nat_abs z ≤ 2 ^ 99 = size_within z (omega (linear, h.0)) (omega (linear, h.1)) in
+    fits_signed_from_abs w128 z (omega (arith, size))
+
 -- the empty path
 root_within : (rows : WholeRows) → IsWithinLimits rows → IsPathWithin rows []
 root_within rows limits = record {
@@ -137,14 +163,17 @@ root_within rows limits = record {
   values = All-nil (λ (slice : Slice). IsOfSize (2 ^ 98) slice.beta);
 }
 
-root_framed : (rows : WholeRows) → IsWithinLimits rows → IsFramedPath rows []
-root_framed rows limits = record { within = root_within rows limits; short = omega arith }
-
 -- the place of a root stands for it
-pub root_stands : (rows : WholeRows) (best : Option ℤ) → IsWithinLimits rows → (place : Place) → IsRootPlace rows place → StandsFor rows place [] best
-root_stands rows best limits (places.Settled move) h = (root_framed rows limits, refl, h)
-root_stands rows best limits (places.Framed node) h = (root_framed rows limits, sym h.0, h.1)
-root_stands rows best limits (places.Plain depth) h = subst (λ d. IsPlainFrom rows d []) (sym h) (turns_plain rows [] (root_framed rows limits))
+pub root_stands : (rows : WholeRows) → IsWithinLimits rows → (place : Place) → IsRootPlace rows place → StandsFor rows place [] None
+root_stands rows limits (places.Settled move) h = (root_within rows limits, refl, h)
+root_stands rows limits (places.Framed node) h = record {
+  within = root_within rows limits;
+  not_closed = h.1;
+  depth = sym h.0;
+  of_node = h.2;
+  short = let d = h.3 in omega (arith, d);
+}
+root_stands rows limits (places.Plain depth) h = (subst (λ d. IsPlainFrom rows d []) (sym h.0) (turns_plain rows [] (root_within rows limits) (omega arith)), h.1)
 
 -- what follows of a value follows of an answer
 pub on_ok : {T E : Type 0} (P Q : T → Type 0) (result : Result T E) → ((value : T) → P value → Q value) → IfOk result P → IfOk result Q

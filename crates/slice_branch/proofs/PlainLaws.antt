@@ -16,6 +16,7 @@ use Rattle.proof_tree.specs.Moves.{SplitsUnder, IsMove}
 use Rattle.proof_tree.specs.Soundness.{on_slice-each, on_slice-forms}
 use Rattle.plain_slices.specs.Shut.{IsColumn, IsFixedBy}
 use Rattle.plain_slices.specs.PlainMoves.{IsPlainMove, IsPlainAnswer}
+use Rattle.slice_branch.specs.ExcusedPaths.{IsExcusedPath}
 use Rattle.slice_branch.specs.Framed.{IsAllowed, IsMarked}
 use Rattle.slice_branch.specs.Places.{IsPathWithin, IsPlainFrom}
 
@@ -89,8 +90,8 @@ module _ (rows : WholeRows) (depth : ℕ) (path : List Slice) (plain : IsPlainFr
     pub lower_plain : ((depth + length rows.box) - length (on_slice path cut.form beta)) + 1 ≤ (depth + length rows.box) - length path
     lower_plain = let d = reached cut move in let b = plain.behind in omega (arith, length_push path slice, d, b, move.is_column)
 
--- the answer of a plain node is allowed
-pub plain_is_allowed : (rows : WholeRows) (path : List Slice) (best : Option ℤ) (move : Move) → IsPlainAnswer rows path best move → IsAllowed rows path best move
-plain_is_allowed rows path best (Close line) h = h.1
-plain_is_allowed rows path best (Split cut) h = (h.1, subst (IsMarked rows path best cut) (sym h.0.mark) h.0)
-plain_is_allowed rows path best (Point x) h = h.2
+-- the answer of a plain node that is excused is allowed
+pub plain_is_allowed : (rows : WholeRows) (path : List Slice) (best : Option ℤ) → IsExcusedPath rows path best → (move : Move) → IsPlainAnswer rows path best move → IsAllowed rows path best move
+plain_is_allowed rows path best excused (Close line) h = h.1
+plain_is_allowed rows path best excused (Split cut) h = (h.1, subst (IsMarked rows path best cut) (sym h.0.mark) (h.0, excused))
+plain_is_allowed rows path best excused (Point x) h = h.2

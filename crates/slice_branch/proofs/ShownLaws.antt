@@ -1,5 +1,5 @@
 -- What points of a node and lines that refute the ends of a form show of its slices there.
-use Rattle.std.proofs.Common.{◌≡◌, ◌<◌, ℤ, pos, ◌+ℤ◌, ◌-ℤ◌, ◌*ℤ◌, ◌≤ℤ◌, List, [], ◌∷◌, length, subst, sym, arith}
+use Rattle.std.proofs.Common.{◌≡◌, ◌<◌, ℤ, pos, ◌+ℤ◌, ◌-ℤ◌, ◌*ℤ◌, List, [], ◌∷◌, length, subst, sym, arith}
 use Rattle.std.specs.Prelude.{Option, Some, None, IfSome, Any}
 use Rattle.std.proofs.lemmas.List.Elements.{All-nil, All-cons}
 use Rattle.exact_math.specs.Ring.{integers}
@@ -14,11 +14,8 @@ use Rattle.proof_tree.specs.declared.tree.Cut.{Cut}
 use Rattle.proof_tree.specs.Moves.{SplitsUnder}
 use Rattle.form_widths.specs.Slices.{AreSlices, ReachesEnds}
 use Rattle.form_widths.specs.NodeLineLaws.{node_slices}
-use Rattle.reformulate.specs.Substitutions.{Substitution}
-use Rattle.slice_branch.specs.Framed.{IsThinMove}
-use Rattle.slice_branch.specs.NodeFrames.{IsKeptForm, IsNodeFrame}
+use Rattle.node_regions.specs.NodeFrames.{IsKeptForm}
 use Rattle.slice_branch.specs.SeenPoints.{ArePoints, IsAtLeastAt, IsAtMostAt, ShowEnds}
-use Rattle.slice_branch.specs.ThinMoves.IsThinBy.{along}
 
 module _ (rows : WholeRows) (path : List Slice) (cut : Option ℤ) where
   -- a point of the node is one over the rational numbers
@@ -72,21 +69,18 @@ module _ (rows : WholeRows) (path : List Slice) (cut : Option ℤ) where
       })
       (reaches_shown c.form c.lo c.count points are show)
 
-  -- and the split into them is thin
-  pub thin_shown : (frame : Substitution) (points : List Fractions) (form : List ℤ) (lo count : ℤ) (result : Option Cut) → IsWithinLimits rows → HasForms (length rows.box) path → IsNodeFrame rows path frame → ArePoints rows path cut points
-      → (pos 1 ≤ℤ count → length path < length rows.box) → IsKeptForm rows.box form → ShowEnds form lo count points → IfSome result (SplitsUnder rows cut path)
-      → IfSome result (λ (c : Cut). c.form ≡ form) → IfSome result (λ (c : Cut). c.lo ≡ lo) → IfSome result (λ (c : Cut). c.count ≡ count) → IfSome result (IsThinMove rows path cut)
-  thin_shown frame points form lo count None limits forms node are few kept show splits is_form is_lo is_count = tt
-  thin_shown frame points form lo count (Some c) limits forms node are few kept show splits is_form is_lo is_count =
+  -- and so it is for a split that has these slices
+  pub slices_shown : (points : List Fractions) (form : List ℤ) (lo count : ℤ) (result : Option Cut) → IsWithinLimits rows → HasForms (length rows.box) path → ArePoints rows path cut points
+      → ShowEnds form lo count points → IfSome result (SplitsUnder rows cut path)
+      → IfSome result (λ (c : Cut). c.form ≡ form) → IfSome result (λ (c : Cut). c.lo ≡ lo) → IfSome result (λ (c : Cut). c.count ≡ count) → IfSome result (λ (c : Cut). AreSlices (IsRationalPoint rows path cut) c.form c.lo c.count)
+  slices_shown points form lo count None limits forms are show splits is_form is_lo is_count = tt
+  slices_shown points form lo count (Some c) limits forms are show splits is_form is_lo is_count =
       let same_form = subst (λ (f : List ℤ). ShowEnds f lo count points) (sym is_form) show in
       let same_lo = subst (λ (l : ℤ). ShowEnds c.form l count points) (sym is_lo) same_form in
       let show_here = subst (λ (n : ℤ). ShowEnds c.form c.lo n points) (sym is_count) same_lo in
-      record {
-        short = subst (λ (n : ℤ). pos 1 ≤ℤ n → length path < length rows.box) (sym is_count) few;
-        cause = along (record {
-          frame = frame;
-          of_node = node;
-          kept = subst (IsKeptForm rows.box) (sym is_form) kept;
-          slices = slices_are_shown c points limits forms splits are show_here;
-        });
-      }
+      slices_are_shown c points limits forms splits are show_here
+
+-- a form that is kept
+pub kept_shown : (rows : WholeRows) (form : List ℤ) (result : Option Cut) → IsKeptForm rows.box form → IfSome result (λ (c : Cut). c.form ≡ form) → IfSome result (λ (c : Cut). IsKeptForm rows.box c.form)
+kept_shown rows form None kept is_form = tt
+kept_shown rows form (Some c) kept is_form = subst (IsKeptForm rows.box) (sym is_form) kept

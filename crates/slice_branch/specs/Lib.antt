@@ -1,8 +1,8 @@
-pub mod Directions
+pub mod ClosedEnds
+pub mod ExcusedPaths
 pub mod Framed
 pub mod Marked
-pub mod NodeFrames
 pub mod Places
 pub mod Roots
 pub mod SeenPoints
-pub mod ThinMoves
+pub mod Settling

@@ -1,13 +1,19 @@
 -- The nodes for which the places of the search stand.
-use Rattle.std.proofs.Common.{◌≡◌, ℕ, ◌+◌, ◌-◌, ◌*◌, ◌^◌, ◌<◌, ◌≤◌, Bool, true, false, ℤ, List, [], length, arith}
-use Rattle.std.specs.Prelude.{All, Option, Some, None}
+use Rattle.std.proofs.Common.{◌≡◌, ℕ, ◌+◌, ◌-◌, ◌*◌, ◌^◌, ◌<◌, ◌≤◌, Bool, true, false, ℤ, List, [], length, ap, arith}
+use Rattle.std.specs.Prelude.{All, Option, None}
 use Rattle.whole_rows.specs.WholeRows.{WholeRows, IsWithinLimits, span}
 use Rattle.farkas_rows.specs.declared.path.Slice.{Slice}
 use Rattle.farkas_rows.specs.Refutes.{HasForms}
+use Rattle.proof_tree.specs.Moves.{ClosesUnder, IsNoHigher}
 use Rattle.proof_tree.specs.Trees.{IsOfSize}
 use Rattle.plain_slices.specs.Shut.{IsFixedBy}
-use Rattle.slice_branch.specs.NodeFrames.{IsNodeFrame}
-use Rattle.slice_branch.specs.ThinMoves.{IsGapForm}
+use Rattle.presolve_map.specs.Roots.{IsClosedRoot}
+use Rattle.reformulate.specs.Substitutions.{dimension_of}
+use Rattle.node_regions.specs.NodeFrames.{IsNodeFrame}
+use Rattle.root_gaps.specs.GapMoves.{IsGapMove}
+use Rattle.root_gaps.specs.declared.outcome.GapMove.TheVariants as gap_moves
+use Rattle.slice_branch.specs.ExcusedPaths.{excused_lower, IsExcusedPath}
+use Rattle.slice_branch.specs.declared.place.Node.{Node}
 use Rattle.slice_branch.specs.declared.place.Place.{Place}
 use Rattle.slice_branch.specs.declared.place.Place.TheVariants.{Settled, Framed, Plain}
 use Rattle.slice_branch.specs.declared.place.Settled as kinds
@@ -30,26 +36,29 @@ pub record IsPlainFrom (rows : WholeRows) (depth : ℕ) (path : List Slice) : Ty
   pub short : length path ≤ depth + length rows.box
   pub fixed : (column : ℕ) → column < length path - depth → IsFixedBy (length rows.box) path column
 
--- a place of a frame stands for a path of at most as many slices as there are columns
-pub record IsFramedPath (rows : WholeRows) (path : List Slice) : Type 0 where
+-- A node with a frame, of a root that is not closed. Each slice that leads to it took a coordinate, so that there are at most as many as columns.
+pub record IsFramedPlace (rows : WholeRows) (node : Node) (path : List Slice) : Type 0 where
   pub within : IsPathWithin rows path
-  pub short : length path ≤ length rows.box
+  pub not_closed : ¬ (IsClosedRoot rows)
+  pub depth : length path ≡ node.depth
+  pub of_node : IsNodeFrame rows path node.frame
+  pub short : length path + dimension_of node.frame ≤ length rows.box
 
--- the gap that a root keeps is one of its equalities
-abbrev pub IsSettledBy : WholeRows → Option kinds.Settled → Type 0
-IsSettledBy rows None = Unit {0}
-IsSettledBy rows (Some (Closed line)) = Unit {0}
-IsSettledBy rows (Some (Gap direction)) = IsGapForm rows direction.form direction.lo
+-- whatever the best value is: the line refutes the root, or the split without slices is one of a gap of the root's equalities
+abbrev pub IsSettledBy : WholeRows → kinds.Settled → Type 0
+IsSettledBy rows (Closed line) = (best : Option ℤ) → ClosesUnder rows best [] None line
+IsSettledBy rows (Gap cut) = (best : Option ℤ) → IsGapMove rows best (gap_moves.Split cut)
 
--- by its kind
+-- by its kind; a node that is split by single columns is excused, or one above it
 abbrev pub StandsFor : WholeRows → Place → List Slice → Option ℤ → Type 0
-StandsFor rows (Settled move) path best = IsFramedPath rows path × (length path ≡ 0) × IsSettledBy rows move
-StandsFor rows (Framed node) path best = IsFramedPath rows path × (length path ≡ node.depth) × IsNodeFrame rows path node.frame
-StandsFor rows (Plain depth) path best = IsPlainFrom rows depth path
+StandsFor rows (Settled move) path best = IsPathWithin rows path × (path ≡ []) × IsSettledBy rows move
+StandsFor rows (Framed node) path best = IsFramedPlace rows node path
+StandsFor rows (Plain depth) path best = IsPlainFrom rows depth path × IsExcusedPath rows path best
 
--- how many slices may still be put on the path: as many thin ones as there are columns, and then as many of single columns
+-- how many slices may still be put on the path: none on that of a settled root, and else as many thin ones as there are columns, and then as many of single
+-- columns
 abbrev pub height_of : WholeRows → Place → List Slice → ℕ
-height_of rows (Settled move) path = 2 * length rows.box - length path
+height_of rows (Settled move) path = 0
 height_of rows (Framed node) path = 2 * length rows.box - length path
 height_of rows (Plain depth) path = (depth + length rows.box) - length path
 
@@ -59,38 +68,26 @@ is_plain_place (Settled move) = false
 is_plain_place (Framed node) = false
 is_plain_place (Plain depth) = true
 
--- the place of a root: no slice leads to it, and a gap or a frame is its own
+-- the place of a root: no slice leads to it, and the move or the frame is its own, or it is excused while no point is known
 abbrev pub IsRootPlace : WholeRows → Place → Type 0
 IsRootPlace rows (Settled move) = IsSettledBy rows move
-IsRootPlace rows (Framed node) = (node.depth ≡ 0) × IsNodeFrame rows [] node.frame
-IsRootPlace rows (Plain depth) = depth ≡ 0
+IsRootPlace rows (Framed node) = (node.depth ≡ 0) × ¬ (IsClosedRoot rows) × IsNodeFrame rows [] node.frame × (dimension_of node.frame ≤ length rows.box)
+IsRootPlace rows (Plain depth) = (depth ≡ 0) × IsExcusedPath rows [] None
 
--- the place is of the same kind, without the move that was taken; as many slices lead to it, and it has the same frame
-abbrev pub IsKept : Place → Place → Type 0
-IsKept (Settled move) (Settled other) = other ≡ None
-IsKept (Settled move) (Framed node) = ⊥
-IsKept (Settled move) (Plain depth) = ⊥
-IsKept (Framed node) (Settled move) = ⊥
-IsKept (Framed node) (Framed other) = (other.depth ≡ node.depth) × (other.frame ≡ node.frame)
-IsKept (Framed node) (Plain depth) = ⊥
-IsKept (Plain depth) (Settled move) = ⊥
-IsKept (Plain depth) (Framed node) = ⊥
-IsKept (Plain depth) (Plain other) = other ≡ depth
+-- the place of a slice of a node with a frame: it has a frame of one coordinate less, or it is excused whatever the best value is
+abbrev pub IsSlicePlace : WholeRows → Node → List Slice → Place → Type 0
+IsSlicePlace rows node path (Settled move) = ⊥
+IsSlicePlace rows node path (Framed child) = (child.depth ≡ node.depth + 1) × IsNodeFrame rows path child.frame × (dimension_of child.frame + 1 ≡ dimension_of node.frame)
+IsSlicePlace rows node path (Plain depth) = (depth ≡ node.depth + 1) × ((best : Option ℤ) → IsExcusedPath rows path best)
 
--- the node is split by single columns from now on, where it was not yet
-abbrev pub plain_from : ℕ → Place → Place
-plain_from depth (Settled move) = Plain depth
-plain_from depth (Framed node) = Plain depth
-plain_from depth (Plain other) = Plain other
-
--- a place stands for a node whatever the best value is
-pub stands_under : (rows : WholeRows) (place : Place) (path : List Slice) (before now : Option ℤ) → StandsFor rows place path before → StandsFor rows place path now
-stands_under rows (Settled move) path before now here = here
-stands_under rows (Framed node) path before now here = here
-stands_under rows (Plain depth) path before now here = here
+-- a place stands for a node under each lower best value
+pub stands_under : (rows : WholeRows) (place : Place) (path : List Slice) (now before : Option ℤ) → IsNoHigher now before → StandsFor rows place path before → StandsFor rows place path now
+stands_under rows (Settled move) path now before lower here = here
+stands_under rows (Framed node) path now before lower here = here
+stands_under rows (Plain depth) path now before lower here = (here.0, excused_lower rows path now before lower here.1)
 
 -- no path is longer than two slices for each column
 pub path_is_short : (rows : WholeRows) (place : Place) (path : List Slice) (best : Option ℤ) → StandsFor rows place path best → length path + height_of rows place path ≤ 2 * length rows.box
-path_is_short rows (Settled move) path best here = let s = here.0.short in omega (arith, s)
-path_is_short rows (Framed node) path best here = let s = here.0.short in omega (arith, s)
-path_is_short rows (Plain depth) path best here = let s = here.short in let e = here.early in omega (arith, s, e)
+path_is_short rows (Settled move) path best here = omega (arith, ap length here.1)
+path_is_short rows (Framed node) path best here = let s = here.short in omega (arith, s)
+path_is_short rows (Plain depth) path best here = let s = here.0.short in let e = here.0.early in omega (arith, s, e)

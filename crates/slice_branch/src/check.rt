@@ -6,7 +6,8 @@ ghost use Rattle.farkas_rows.specs.Refutes.{HasForms, IsDense};
 ghost use Rattle.proof_tree.specs.declared.tree.Mark.TheVariants.{Thin};
 ghost use Rattle.proof_tree.specs.Moves.{widest, ClosesUnder, SplitsUnder};
 ghost use Rattle.proof_tree.specs.Trees.{IsSplitForm};
-ghost use Rattle.slice_branch.specs.Directions.{IsDirection};
+ghost use Rattle.node_regions.specs.NodeFrames.{IsKeptFactor, IsKeptForm};
+ghost use Rattle.slice_branch.specs.ClosedEnds.{HasClosedEnds};
 
 use farkas_rows::{CutUse, End, Line, Path, refutes};
 use node_search::Direction;
@@ -56,6 +57,28 @@ pub(crate) fn closes_under<'a>(
     is_cut_under(best, &line.cut) && refutes(rows, path, end, line)
 }
 
+/// Whether a factor is 0 where its column has one value.
+fn is_kept_factor(bounds: Bounds, factor: i128) -> bool
+    ensures { IsTrue result ↔ IsKeptFactor bounds factor }
+{
+    bounds.low != bounds.high || factor == 0
+}
+
+/// Whether the form has a factor for each column, which is 0 where the column has one value.
+pub(crate) fn is_kept_form(bounds: &[Bounds], form: &[i128]) -> bool
+    ensures { IsTrue result ↔ IsKeptForm bounds.now form.now }
+{
+    if bounds.len() != form.len() {
+        return false;
+    }
+    for j in 0..form.len() {
+        if !is_kept_factor(bounds[j], form[j]) {
+            return false;
+        }
+    }
+    true
+}
+
 /// Whether the form is one of a split.
 fn is_split_form(rows: &DenseRows, form: &[i128]) -> bool
     ensures { IsTrue result ↔ IsSplitForm rows.now form.now }
@@ -66,7 +89,7 @@ fn is_split_form(rows: &DenseRows, form: &[i128]) -> bool
 }
 
 /// Whether the values between the two ends are at most `most` whole numbers from `lo` on, and both ends are closed.
-fn is_direction(
+fn has_closed_ends(
     rows: &DenseRows,
     best: Option<i128>,
     path: &Path,
@@ -76,7 +99,7 @@ fn is_direction(
     requires forms { HasForms (length rows.now.box) path.now }
     requires most { most ≡ pos (widest rows.now.box + 1) }
     requires small { widest rows.now.box ≤ 2 ^ 97 }
-    ensures { IsTrue result → IsDirection rows.now best path.now direction.now }
+    ensures { IsTrue result → HasClosedEnds rows.now best path.now direction.now }
 {
     let Direction {
         form,
@@ -117,7 +140,7 @@ pub(crate) fn split_of(
     ensures lo { IfSome result (λ cut. cut.lo ≡ direction.lo) }
     ensures count { IfSome result (λ cut. cut.count ≡ direction.count) }
 {
-    if !is_direction(rows, best, path, most, &direction) {
+    if !has_closed_ends(rows, best, path, most, &direction) {
         return None;
     }
     let Direction {

@@ -3,10 +3,12 @@
 
 mod brancher;
 mod check;
-mod frames;
-mod gap;
+mod exact;
 mod place;
+mod roots;
+mod settled;
 mod shown;
+mod slices;
 mod work;
 
 pub use brancher::SliceBrancher;

@@ -1,9 +1,10 @@
 //! What a brancher keeps of a node.
 use farkas_rows::Line;
-use node_search::{Direction, Programs};
+use node_search::Programs;
+use proof_tree::Cut;
 use reformulate::Frame;
 
-/// A node in the coordinates of a frame, with what it keeps for its programs.
+/// A node in the coordinates of a frame, with what it keeps for its fast programs.
 #[derive(Debug, Drop)]
 pub struct Node {
     pub(crate) frame: Frame,
@@ -18,14 +19,14 @@ pub enum Settled {
     /// Bounds cross, or a row cannot be met within the box.
     Closed(Line),
     /// The equalities have no integer point: a form has no value at all.
-    Gap(Direction),
+    Gap(Cut),
 }
 
 /// What a brancher keeps of a node.
 #[derive(Debug, Drop)]
 pub enum Place {
     /// The root, with its move.
-    Settled(Option<Settled>),
+    Settled(Settled),
     /// A node with a frame of its equalities.
     Framed(Node),
     /// A node that is split by single columns, as all below it are: so many slices lead to the first such node.

@@ -59,7 +59,7 @@ chosen_none p lines j form g none before = record {
 }
 
 -- the number is at most the width of column j, made primitive
-below_part : (p : Polytope) (lines : List (List ℤ)) (j : ℕ) (part : List ℤ) (g : Gauge) (value : ℚ) → IsPrimitivePart (get_or lines j []) part → IsGauge p [] (wholes part) g → value ≤ℚ g.value → (other : List ℤ) → IsFreeColumn lines j other → IsBelowBounds p 1 value other
+pub below_part : (p : Polytope) (lines : List (List ℤ)) (j : ℕ) (part : List ℤ) (g : Gauge) (value : ℚ) → IsPrimitivePart (get_or lines j []) part → IsGauge p [] (wholes part) g → value ≤ℚ g.value → (other : List ℤ) → IsFreeColumn lines j other → IsBelowBounds p 1 value other
 below_part p lines j part g value is gauge le other free bound h =
     let same : other ≡ part = part_is_only lines j part other is free in
     subst (λ q. value ≤ℚ q) (sym (once bound)) (Order.le_trans value g.value bound le (attained p part g bound gauge (subst (λ form. IsAtMost p [] (wholes form) bound) same h)))
@@ -98,7 +98,7 @@ chosen_new p lines j form part g new inside long narrow is gauge less before =
 -- ---- all columns
 
 -- what is at most the bounds of a width is the width of no wider a form
-no_wider : (p : Polytope) (factor : ℕ) (form other : List ℤ) (g : Gauge) → IsGauge p [] (wholes form) g → IsBelowBounds p factor g.value other → IsNoWiderThan factor (Has p) form other
+pub no_wider : (p : Polytope) (factor : ℕ) (form other : List ℤ) (g : Gauge) → IsGauge p [] (wholes form) g → IsBelowBounds p factor g.value other → IsNoWiderThan factor (Has p) form other
 no_wider p factor form other g is below bound h y z in_y in_z =
     Order.le_trans _ g.value _ (bound_on_region p form g.value is.most y z in_y in_z) (below bound (bound_on_polytope p other bound h))
 

@@ -7,3 +7,4 @@ mod parts;
 
 pub use answer::{ThinForm, ThinFormStop};
 pub use choice::thinnest;
+pub use parts::primitive_part;

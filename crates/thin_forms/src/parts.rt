@@ -49,10 +49,7 @@ fn quotients(alloc: Global, factors: &[i128], divisor: i128) -> Result<Form<Kern
 }
 
 /// The primitive part of a form; none where all factors are 0.
-pub(crate) fn primitive_part(
-    alloc: Global,
-    factors: &[i128],
-) -> Result<Option<Form<Kernel>>, NoMemory>
+pub fn primitive_part(alloc: Global, factors: &[i128]) -> Result<Option<Form<Kernel>>, NoMemory>
     requires { All IsNarrow factors.now }
     ensures part { IfOk result (λ part. IfSome part (IsPrimitivePart factors.now)) }
     ensures narrow { IfOk result (λ part. IfSome part (All IsNarrow)) }

@@ -1,167 +1,38 @@
-//! The directions along which a node may be split, and the choice among them.
+//! The choice of the direction along which a node is split.
 use crate::directions::binary::binary_direction;
-use crate::directions::ends::{Direction, measured};
+use crate::directions::candidates::Candidates;
+use crate::directions::ends::{Candidate, Direction};
+use crate::directions::middle::add_middle;
+use crate::directions::node_forms::NodeForms;
+use crate::directions::outlook::rank_of;
+use crate::directions::pairs::weigh_pairs;
+use crate::directions::rests::{rests_of, take_least};
 use crate::directions::seen::Seen;
-use crate::forms::frame_forms::combine;
-use crate::forms::short::Shortener;
+use crate::directions::thin::{Thin, further_form};
 use crate::halt::{Halt, passed_over};
 use crate::model::OpenModel;
-use crate::numbers::factors::{add_row, divisor_of};
-use crate::numbers::quotient::floor;
+use crate::numbers::factors::divisor_of;
 use crate::task::Task;
 use range_dict::RangeDict;
-use reformulate::Frame;
-use spaces::{Form, Grid, Original, Work};
+use spaces::{Form, Original};
 use std::alloc::Global;
 
-/// Factors of candidates are smaller than this in size: larger ones would leave the 64 bits of a dictionary.
-const LARGEST_FACTOR: i128 = 1 << 40;
+/// How many candidates are tried by the programs of their slices.
+const MOST_TRIED: usize = 4;
 
-/// A frame, and what makes forms shorter by its equalities.
-#[derive(Clone, Copy, Drop)]
-pub(crate) struct Thin<'a> {
-    pub(crate) frame: &'a Frame,
-    /// Short forms for its coordinates.
-    pub(crate) forms: &'a Grid<Work, i128>,
-    pub(crate) short: &'a Shortener,
-    /// Further forms that may be thin, over the work columns.
-    pub(crate) further: &'a [Vec<i128>],
-}
+/// How many slices of a candidate are tried at most.
+const MOST_SLICES: i128 = 8;
 
-/// The form over all columns that has the values of these factors in the work columns, up to a constant, and is short.
-fn short_form(
+/// Measures the free columns.
+fn weigh_columns(
     alloc: Global,
-    model: &OpenModel,
-    short: &Shortener,
-    factors: &[i128],
-) -> Result<Form<Original>, Halt> {
-    let mut factors = factors.to_vec(alloc)?;
-    short.shorten(&mut factors).ok_or(Halt::GivesUp)?;
-    model.lifted(alloc, &factors)
-}
-
-/// A form that has the values of work column `j` at the points of a frame, less a constant and over the greatest common
-/// divisor of its differences there; none where the column has one value in the frame.
-fn column_form(
-    alloc: Global,
-    model: &OpenModel,
-    thin: Thin<'_>,
-    j: usize,
-) -> Result<Option<Form<Original>>, Halt> {
-    let frame = thin.frame;
-    let lines = frame.to_work().lines();
-    if j >= lines.rows() {
-        return Ok(None);
-    }
-    match divisor_of(lines.row(j)) {
-        None => Err(Halt::GivesUp),
-        Some(0) => Ok(None),
-        Some(1) => Ok(Some(model.column(alloc, j)?)),
-        Some(divisor) => {
-            let factors = primitive_factors(alloc, thin.forms, lines.row(j), divisor)?;
-            Ok(Some(short_form(alloc, model, thin.short, &factors)?))
-        }
-    }
-}
-
-/// A form that has the values of a form over the work columns at the points of a frame, less a constant and over the greatest
-/// common divisor of its differences there; none where it has one value in the frame.
-fn further_form(
-    alloc: Global,
-    model: &OpenModel,
-    thin: Thin<'_>,
-    factors: &[i128],
-) -> Result<Option<Form<Original>>, Halt> {
-    let lines = thin.frame.to_work().lines();
-    let mut line = vec![in alloc; 0; lines.width()]?;
-    combine(&mut line, factors, lines).ok_or(Halt::GivesUp)?;
-    match divisor_of(&line) {
-        None => Err(Halt::GivesUp),
-        Some(0) => Ok(None),
-        Some(1) => Ok(Some(short_form(alloc, model, thin.short, factors)?)),
-        Some(divisor) => {
-            let factors = primitive_factors(alloc, thin.forms, &line, divisor)?;
-            Ok(Some(short_form(alloc, model, thin.short, &factors)?))
-        }
-    }
-}
-
-/// The factors over the work columns of the form that has these factors, over their greatest common divisor, over the
-/// coordinates of a frame.
-fn primitive_factors(
-    alloc: Global,
-    forms: &Grid<Work, i128>,
-    line: &[i128],
-    divisor: i128,
-) -> Result<Vec<i128>, Halt> {
-    let mut factors = vec![in alloc; 0; forms.width()]?;
-    for k in 0..forms.rows() {
-        let times = line
-            .get(k)
-            .and_then(|item| floor(*item, divisor))
-            .ok_or(Halt::GivesUp)?;
-        add_row(&mut factors, forms.row(k), times).ok_or(Halt::GivesUp)?;
-    }
-    Ok(factors)
-}
-
-/// Whether each factor is small enough for a dictionary.
-fn is_small(form: &[i128]) -> bool {
-    form.iter().all(|factor| -LARGEST_FACTOR < *factor && *factor < LARGEST_FACTOR)
-}
-
-/// The direction that is chosen so far.
-#[derive(Debug, Drop)]
-struct Choice {
-    best: Option<Direction>,
-    /// The programs of some form leave 64 bits.
-    is_blurred: bool,
-}
-
-impl Choice {
-    /// Whether a form that has values at so many whole numbers, at least, can be better.
-    fn is_open(&self, least: Option<i128>) -> bool {
-        match (&self.best, least) {
-            (Some(best), Some(count)) => count < best.count,
-            _ => true,
-        }
-    }
-
-    /// Whether no form can be better.
-    fn is_settled(&self) -> bool {
-        match &self.best {
-            Some(best) => best.count <= 1,
-            None => false,
-        }
-    }
-
-    /// Takes another direction, where it has fewer slices.
-    fn weigh(&mut self, other: Direction) {
-        if self.is_open(Some(other.count)) {
-            self.best = Some(other);
-        }
-    }
-}
-
-/// Weighs a further form. It is measured only where it can have fewer slices, and where its programs leave 64 bits the
-/// dictionary stays.
-fn weigh_form(
-    alloc: Global,
+    columns: &[Form<Original>],
     dict: &mut RangeDict,
     seen: &mut Seen,
-    choice: &mut Choice,
-    form: Form<Original>,
+    candidates: &mut Candidates,
 ) -> Result<(), Halt> {
-    if !is_small(form.items()) || !choice.is_open(seen.least_count(form.items())) {
-        return Ok(());
-    }
-    let mut trial = dict.copied(alloc)?;
-    match passed_over(measured(alloc, &mut trial, seen, form).map(Some))? {
-        Some(direction) => {
-            *dict = trial;
-            choice.weigh(direction);
-        }
-        None => choice.is_blurred = true,
+    for form in columns {
+        candidates.weigh_column(alloc, dict, seen, form.items())?;
     }
     Ok(())
 }
@@ -169,19 +40,16 @@ fn weigh_form(
 /// Weighs the coordinates of a frame, the last one first.
 fn weigh_coordinates(
     alloc: Global,
-    model: &OpenModel,
-    thin: Thin<'_>,
+    coordinates: &[Form<Original>],
     dict: &mut RangeDict,
     seen: &mut Seen,
-    choice: &mut Choice,
+    candidates: &mut Candidates,
 ) -> Result<(), Halt> {
-    let forms = thin.forms;
-    for k in (0..forms.rows()).rev() {
-        if choice.is_settled() {
+    for form in coordinates.iter().rev() {
+        if candidates.is_settled() {
             break;
         }
-        let form = model.lifted(alloc, forms.row(k))?;
-        weigh_form(alloc, dict, seen, choice, form)?;
+        candidates.weigh(alloc, dict, seen, form.items())?;
     }
     Ok(())
 }
@@ -193,40 +61,20 @@ fn weigh_further(
     thin: Thin<'_>,
     dict: &mut RangeDict,
     seen: &mut Seen,
-    choice: &mut Choice,
+    candidates: &mut Candidates,
 ) -> Result<(), Halt> {
     for factors in thin.further.iter().rev() {
-        if choice.is_settled() {
+        if candidates.is_settled() {
             break;
         }
         if let Some(form) = passed_over(further_form(alloc, model, thin, factors))? {
-            weigh_form(alloc, dict, seen, choice, form)?;
+            candidates.weigh(alloc, dict, seen, form.items())?;
         }
     }
     Ok(())
 }
 
-/// Weighs the free columns.
-fn weigh_columns(
-    alloc: Global,
-    model: &OpenModel,
-    thin: Thin<'_>,
-    dict: &mut RangeDict,
-    seen: &mut Seen,
-    choice: &mut Choice,
-) -> Result<(), Halt> {
-    for column in 0..thin.forms.width() {
-        if choice.is_settled() {
-            break;
-        }
-        if let Some(form) = column_form(alloc, model, thin, column)? {
-            weigh_form(alloc, dict, seen, choice, form)?;
-        }
-    }
-    Ok(())
-}
-
-/// Weighs the free columns of two values.
+/// Weighs the free columns of two values, where they have fewer slices than what is known.
 fn weigh_binaries(
     alloc: Global,
     model: &OpenModel,
@@ -234,11 +82,11 @@ fn weigh_binaries(
     thin: Thin<'_>,
     dict: &RangeDict,
     seen: &mut Seen,
-    choice: &mut Choice,
+    candidates: &mut Candidates,
 ) -> Result<(), Halt> {
     let lines = thin.frame.to_work().lines();
     for j in 0..lines.rows() {
-        if !choice.is_open(Some(2)) {
+        if candidates.count().is_some_and(|count| count <= 2) {
             break;
         }
         if divisor_of(lines.row(j)) == Some(1)
@@ -246,13 +94,95 @@ fn weigh_binaries(
                 alloc, model, task, dict, seen, j,
             ))?
         {
-            choice.weigh(direction);
+            let width = None;
+            candidates.take(alloc, Candidate { direction, width })?;
         }
     }
     Ok(())
 }
 
-/// The direction with the fewest slices among the coordinates of a frame, the further forms and the free columns.
+/// The candidates with the fewest slices among the coordinates of a frame, the further forms, sums and differences of two
+/// coordinates, and the thinnest free columns. None is wider than a free column whose width is known.
+fn candidates_of(
+    alloc: Global,
+    model: &OpenModel,
+    task: Task<'_>,
+    thin: Thin<'_>,
+    forms: &NodeForms,
+    dict: &mut RangeDict,
+    seen: &mut Seen,
+) -> Result<Candidates, Halt> {
+    let mut candidates = Candidates::new(alloc);
+    let NodeForms {
+        columns,
+        coordinates,
+    } = forms;
+    weigh_columns(alloc, columns, dict, seen, &mut candidates)?;
+    weigh_coordinates(alloc, coordinates, dict, seen, &mut candidates)?;
+    weigh_further(alloc, model, thin, dict, seen, &mut candidates)?;
+    if !candidates.is_settled() {
+        weigh_pairs(alloc, model, thin, coordinates, dict, seen, &mut candidates)?;
+    }
+    candidates.take_thinnest(alloc)?;
+    if candidates.is_blurred {
+        weigh_binaries(alloc, model, task, thin, dict, seen, &mut candidates)?;
+    }
+    Ok(candidates)
+}
+
+/// The place of the candidate whose slices have the best outlook, among the first ones by what their splits leave.
+fn best_place(
+    alloc: Global,
+    dict: &RangeDict,
+    forms: &NodeForms,
+    rests: &mut [Option<i128>],
+    candidates: &[Candidate],
+) -> Result<usize, Halt> {
+    let mut best = 0;
+    let mut least = i128::MAX;
+    for _try in 0..MOST_TRIED {
+        let Some(place) = take_least(rests) else {
+            break;
+        };
+        let Some(candidate) = candidates.get(place) else {
+            break;
+        };
+        let rank = rank_of(alloc, dict, &candidate.direction, forms, least)?;
+        if rank < least {
+            best = place;
+            least = rank;
+        }
+        if least <= 0 {
+            break;
+        }
+    }
+    Ok(best)
+}
+
+/// The place of the candidate that is chosen among those of one count.
+fn chosen(
+    alloc: Global,
+    dict: &RangeDict,
+    seen: &Seen,
+    forms: &NodeForms,
+    candidates: &[Candidate],
+) -> Result<usize, Halt> {
+    let count = match candidates.first() {
+        Some(first) if candidates.len() > 1 => first.direction.count,
+        _ => return Ok(0),
+    };
+    if count <= 0 {
+        return Ok(0);
+    }
+    let mut rests = rests_of(alloc, seen, &forms.coordinates, candidates)?;
+    if count > MOST_SLICES {
+        return Ok(take_least(&mut rests).unwrap_or(0));
+    }
+    best_place(alloc, dict, forms, &mut rests, candidates)
+}
+
+/// The direction with the fewest slices among the candidates that are at most as wide as each free column, of several the one
+/// whose slices are nearest to being closed.
 pub(crate) fn thin_direction(
     alloc: Global,
     model: &OpenModel,
@@ -261,15 +191,16 @@ pub(crate) fn thin_direction(
     dict: &mut RangeDict,
     seen: &mut Seen,
 ) -> Result<Option<Direction>, Halt> {
-    let mut choice = Choice {
-        best: None,
-        is_blurred: false,
-    };
-    weigh_coordinates(alloc, model, thin, dict, seen, &mut choice)?;
-    weigh_further(alloc, model, thin, dict, seen, &mut choice)?;
-    weigh_columns(alloc, model, thin, dict, seen, &mut choice)?;
-    if choice.is_blurred {
-        weigh_binaries(alloc, model, task, thin, dict, seen, &mut choice)?;
+    let forms = NodeForms::of(alloc, model, thin)?;
+    let mut candidates = candidates_of(alloc, model, task, thin, &forms, dict, seen)?;
+    let place = passed_over(chosen(alloc, dict, seen, &forms, &candidates.best).map(Some))?;
+    let place = place.unwrap_or(0);
+    if place >= candidates.best.len() {
+        return Ok(None);
     }
-    Ok(choice.best)
+    let Candidate { direction, width } = candidates.best.swap_remove(place);
+    if let Some(width) = width {
+        add_middle(alloc, model, task, thin, dict, seen, &width)?;
+    }
+    Ok(Some(direction))
 }

@@ -3,7 +3,8 @@ use crate::directions::seen::{Seen, value_at};
 use crate::halt::Halt;
 use crate::numbers::quotient::{ceil, floor};
 use farkas_rows::Line;
-use range_dict::{RangeDict, Vertex};
+use frac128::Frac;
+use range_dict::{Extreme, RangeDict, Vertex};
 use spaces::{Form, Original};
 use std::alloc::Global;
 
@@ -65,27 +66,57 @@ fn negate(factors: &mut [i128]) -> Option<()> {
     Some(())
 }
 
+/// A direction with its width: the greatest less the least value at the rational points of the node; none where that leaves
+/// 128 bits.
+#[derive(Debug, Drop)]
+pub(crate) struct Candidate {
+    pub(crate) direction: Direction,
+    pub(crate) width: Option<Frac>,
+}
+
+impl Candidate {
+    /// Whether the form has more than one value.
+    pub(crate) fn varies(&self) -> bool {
+        match &self.width {
+            Some(width) => width.num() > 0,
+            None => false,
+        }
+    }
+}
+
+/// The difference of two extremes.
+fn width_between(least: &Extreme, greatest: &Extreme) -> Option<Frac> {
+    if least.vertex.denominator <= 0 || greatest.vertex.denominator <= 0 {
+        return None;
+    }
+    let low = Frac::new(least.value, least.vertex.denominator).ok()?;
+    let high = Frac::new(greatest.value, greatest.vertex.denominator).ok()?;
+    high.sub(&low).ok()
+}
+
 /// Finds the ends of a form at the node of a dictionary that has a point. The points where it has them are kept.
 pub(crate) fn measured(
     alloc: Global,
     dict: &mut RangeDict,
     seen: &mut Seen,
     form: Form<Original>,
-) -> Result<Direction, Halt> {
+) -> Result<Candidate, Halt> {
     let least = dict.least(alloc, form.items())?;
     let lo = ceil(least.value, least.vertex.denominator).ok_or(Halt::GivesUp)?;
-    seen.add(least.vertex)?;
     let greatest = dict.greatest(alloc, form.items())?;
     let last = floor(greatest.value, greatest.vertex.denominator).ok_or(Halt::GivesUp)?;
-    seen.add(greatest.vertex)?;
     let count = count_between(lo, last).ok_or(Halt::GivesUp)?;
-    Ok(Direction {
+    let width = width_between(&least, &greatest);
+    seen.add(least.vertex)?;
+    seen.add(greatest.vertex)?;
+    let direction = Direction {
         form,
         lo,
         count,
         below: least.line,
         above: greatest.line,
-    })
+    };
+    Ok(Candidate { direction, width })
 }
 
 /// How many whole numbers there are from `lo` to `last`.

@@ -32,6 +32,11 @@ impl Seen {
         self.points
     }
 
+    /// Lends the points.
+    pub(crate) fn points(&self) -> &[Vertex] {
+        &self.points
+    }
+
     /// Keeps a further point.
     pub(crate) fn add(&mut self, vertex: Vertex) -> Result<(), Halt> {
         self.points.push(vertex)?;

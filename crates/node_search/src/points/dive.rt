@@ -3,9 +3,9 @@ ghost use Rattle.std.specs.Prelude.{◌≡◌, length, IfOk, IfSome};
 ghost use Rattle.farkas_rows.specs.Refutes.{HasForms};
 ghost use Rattle.proof_tree.specs.Moves.{Improves};
 
-use crate::directions::choice::Thin;
 use crate::directions::ends::{Direction, measured};
 use crate::directions::seen::{Seen, value_at};
+use crate::directions::thin::Thin;
 use crate::halt::{Halt, passed_over};
 use crate::model::OpenModel;
 use crate::numbers::around::Nearest;
@@ -54,7 +54,7 @@ fn look_below<'a>(
         return Ok(None);
     }
     let form = model.lifted(alloc, thin.forms.row(level - 1))?;
-    let direction = measured(alloc, dict, &mut Seen::new(alloc), form)?;
+    let direction = measured(alloc, dict, &mut Seen::new(alloc), form)?.direction;
     let mut values = values_near(&direction, vertex).ok_or(Halt::GivesUp)?;
     for _value in 0..MOST_VALUES {
         let Some(value) = values.next() else {

@@ -3,7 +3,7 @@ ghost use Rattle.std.specs.Prelude.{◌≡◌, length, IfOk, IfSome};
 ghost use Rattle.farkas_rows.specs.Refutes.{HasForms};
 ghost use Rattle.proof_tree.specs.Moves.{Improves};
 
-use crate::directions::choice::Thin;
+use crate::directions::thin::Thin;
 use crate::halt::Halt;
 use crate::model::OpenModel;
 use crate::points::better::better;

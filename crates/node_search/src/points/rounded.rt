@@ -1,5 +1,5 @@
 //! Whole points next to a vertex, which are tried before any split.
-use crate::directions::choice::Thin;
+use crate::directions::thin::Thin;
 use crate::halt::Halt;
 use crate::model::OpenModel;
 use crate::numbers::quotient::floor;

@@ -1,4 +1,4 @@
-use Rattle.exact_nodes.proofs.NodeFacts.{region_answer, region_bounded, region_condition}
+use Rattle.exact_nodes.proofs.NodeFacts.{region_answer}
 use Rattle.exact_nodes.proofs.region.answer.Goals as goal
 
 pub returns-in-Ok-clause-solved : goal.returns-in-Ok-clause-solved

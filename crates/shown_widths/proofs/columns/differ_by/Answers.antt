@@ -1,7 +1,7 @@
-use Rattle.std.proofs.Common.{rules, ◌≡◌, ap, ◌∙◌, sym, subst₂, FitsSigned, to_z, of_z}
+use Rattle.std.proofs.Common.{rules, ap, ◌∙◌, sym, subst₂, FitsSigned}
 use Rattle.std.specs.Int.{w128}
 use Rattle.std.proofs.lemmas.Int.{to_z-of_z}
-use Rattle.exact_math.specs.Rational.{ℚ, whole, ◌-ℚ◌, ◌*ℚ◌, ◌≤ℚ◌}
+use Rattle.exact_math.specs.Rational.{ℚ, ◌*ℚ◌, ◌≤ℚ◌}
 use Rattle.exact_math.specs.RationalTests.{le_true}
 use Rattle.shown_widths.proofs.columns.differ_by.Goals as goal
 

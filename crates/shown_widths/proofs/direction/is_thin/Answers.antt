@@ -1,10 +1,6 @@
-use Rattle.std.proofs.Common.{rules, ◌≡◌, ℕ, ◌<◌, ◌≤◌, ◌-◌, ◌^◌, ap, sym, subst, ◌∙◌, FitsSigned, to_z, of_z}
+use Rattle.std.proofs.Common.{rules, ℕ, ◌≤◌, ◌-◌, ◌^◌, sym, subst, FitsSigned}
 use Rattle.std.specs.Int.{w128}
 use Rattle.std.proofs.lemmas.Int.{to_z-of_z}
-use Rattle.spaces.specs.Maps.{AffineMap}
-use Rattle.spaces.specs.Tables.{Table, row_at}
-use Rattle.exact_math.specs.Rational.{ℚ}
-use Rattle.shown_widths.specs.Columns.{IsShownWide}
 use Rattle.shown_widths.proofs.direction.is_thin.Goals as goal
 
 pub returns : goal.returns

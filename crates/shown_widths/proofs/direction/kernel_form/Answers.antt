@@ -1,4 +1,4 @@
-use Rattle.std.proofs.Common.{◌≡◌, length, ap, sym, ◌∙◌}
+use Rattle.std.proofs.Common.{length, ap, sym, ◌∙◌}
 use Rattle.spaces.specs.Maps.{AffineMap}
 use Rattle.shown_widths.proofs.direction.kernel_form.Goals as goal
 

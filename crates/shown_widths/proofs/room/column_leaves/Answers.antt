@@ -1,5 +1,5 @@
-use Rattle.std.proofs.Common.{rules, ◌≡◌, ℕ, ◌<◌, ◌≤◌, List, ℤ, pos, nat_abs, length, map, ◌-ℤ◌, ap, sym, subst, subst₂, ◌∙◌, arith, FitsSigned, to_z, of_z}
-use Rattle.std.specs.Prelude.{Option, Some, None, IfSome, All}
+use Rattle.std.proofs.Common.{rules, ◌≡◌, ◌≤◌, List, ℤ, nat_abs, map, ap, subst, ◌∙◌, FitsSigned}
+use Rattle.std.specs.Prelude.{All}
 use Rattle.std.specs.Int.{w128}
 use Rattle.std.proofs.lemmas.Int.{to_z-of_z}
 use Rattle.spaces.specs.Maps.{AffineMap}
@@ -7,7 +7,6 @@ use Rattle.spaces.specs.TableLaws.{HasWidth-rows_in}
 use Rattle.spaces.specs.Tables.{Table, row_at}
 use Rattle.farkas_lift.specs.NodeSystem.{cut_of}
 use Rattle.node_point.specs.RationalPoints.{coordinates}
-use Rattle.shown_widths.specs.Steps.{BothLeave, IsLightAlong, SideLeaves}
 use Rattle.shown_widths.proofs.SideLaws.{sides_of_column}
 use Rattle.shown_widths.proofs.room.column_leaves.Goals as goal
 

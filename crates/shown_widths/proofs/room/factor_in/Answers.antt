@@ -1,4 +1,4 @@
-use Rattle.std.proofs.Common.{◌≤◌, ◌-◌, ◌^◌, ◌<◌, ℕ, refl, arith}
+use Rattle.std.proofs.Common.{◌≤◌, ◌-◌, ◌^◌, ℕ, refl, arith}
 use Rattle.std.proofs.Math.Nat.{pow-le-pow_right}
 use Rattle.shown_widths.proofs.room.factor_in.Goals as goal
 

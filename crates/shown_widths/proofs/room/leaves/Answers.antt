@@ -1,4 +1,4 @@
-use Rattle.std.proofs.Common.{rules, ◌≡◌, ℤ, pos, ◌*ℤ◌, ◌≤ℤ◌, ◌<◌, ◌^◌, List, length, map, ap, sym, subst, ◌∙◌, FitsSigned, to_z, of_z}
+use Rattle.std.proofs.Common.{rules, ◌≡◌, ℤ, pos, ◌*ℤ◌, ◌≤ℤ◌, ◌<◌, ◌^◌, length, map, ap, sym, subst, ◌∙◌, FitsSigned, to_z}
 use Rattle.std.specs.Int.{w128}
 use Rattle.std.proofs.lemmas.Int.{to_z-of_z, to_z_pos}
 use Rattle.std.proofs.lemmas.List.{length-map}

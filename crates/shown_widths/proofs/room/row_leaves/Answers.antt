@@ -1,13 +1,11 @@
-use Rattle.std.proofs.Common.{rules, ◌≡◌, ℕ, ◌<◌, ◌≤◌, List, ℤ, pos, nat_abs, length, map, ◌-ℤ◌, ap, sym, subst, subst₂, ◌∙◌, arith, FitsSigned, to_z, of_z}
-use Rattle.std.specs.Prelude.{Option, Some, None, IfSome, All}
+use Rattle.std.proofs.Common.{rules, ℤ, map, subst, FitsSigned}
+use Rattle.std.specs.Prelude.{Option, IfSome}
 use Rattle.std.specs.Int.{w128}
 use Rattle.std.proofs.lemmas.Int.{to_z-of_z}
-use Rattle.spaces.specs.Maps.{AffineMap}
 use Rattle.spaces.specs.TableLaws.{HasWidth-rows_in}
-use Rattle.spaces.specs.Tables.{Table, row_at}
 use Rattle.farkas_lift.specs.NodeSystem.{cut_of}
 use Rattle.node_point.specs.RationalPoints.{coordinates}
-use Rattle.shown_widths.specs.Steps.{BothLeave, IsLightAlong, SideLeaves}
+use Rattle.shown_widths.specs.Steps.{IsLightAlong}
 use Rattle.shown_widths.proofs.SideLaws.{sides_of_row}
 use Rattle.shown_widths.proofs.room.row_leaves.Goals as goal
 

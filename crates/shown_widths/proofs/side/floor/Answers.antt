@@ -1,4 +1,4 @@
-use Rattle.std.proofs.Common.{rules, ◌≡◌, ℤ, ◌*ℤ◌, ◌≤ℤ◌, subst, sym, FitsSigned, to_z, of_z}
+use Rattle.std.proofs.Common.{rules, ℤ, ◌*ℤ◌, ◌≤ℤ◌, subst, sym, FitsSigned}
 use Rattle.std.specs.Int.{w128}
 use Rattle.std.proofs.lemmas.Int.{to_z-of_z}
 use Rattle.shown_widths.proofs.SlackLaws.{floor_below}

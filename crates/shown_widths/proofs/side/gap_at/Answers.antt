@@ -1,4 +1,4 @@
-use Rattle.std.proofs.Common.{rules, ◌≡◌, ℤ, length, ◌-ℤ◌, ◌*ℤ◌, ap, ap₂, ◌∙◌, sym, FitsSigned, to_z, of_z}
+use Rattle.std.proofs.Common.{rules, ℤ, length, ◌-ℤ◌, ◌*ℤ◌, ap, ap₂, ◌∙◌, sym, FitsSigned}
 use Rattle.std.specs.Int.{w128}
 use Rattle.std.proofs.lemmas.Int.{to_z-of_z}
 use Rattle.shown_widths.specs.Points.{bounded, form_of, gap_of}

@@ -1,8 +1,7 @@
-use Rattle.std.proofs.Common.{rules, ◌≡◌, ℤ, pos, length, ◌*ℤ◌, ◌≤ℤ◌, ◌<ℤ◌, ap, ◌∙◌, subst, sym, arith, FitsSigned, to_z, of_z}
+use Rattle.std.proofs.Common.{rules, ◌≡◌, ℤ, pos, length, ◌*ℤ◌, ◌≤ℤ◌, ◌<ℤ◌, ap, ◌∙◌, subst, FitsSigned}
 use Rattle.std.specs.Int.{w128}
 use Rattle.std.proofs.lemmas.Int.{to_z-of_z}
 use Rattle.exact_math.specs.IntegerLaws as Z
-use Rattle.exact_math.specs.IntegerRing.{linear}
 use Rattle.form_widths.specs.FixedPointLaws.{amount_within}
 use Rattle.shown_widths.specs.Points.{bounded, form_of, gap_of}
 use Rattle.shown_widths.specs.Steps.{parts}

@@ -1,4 +1,4 @@
-use Rattle.std.proofs.Common.{rules, ◌≡◌, ℤ, List, get_or, length, pos, ap, ◌∙◌, sym, subst, refl, FitsSigned, to_z, of_z}
+use Rattle.std.proofs.Common.{rules, ℤ, List, get_or, length, pos, ap, ◌∙◌, sym, subst, refl, FitsSigned}
 use Rattle.std.specs.Int.{w128}
 use Rattle.std.proofs.lemmas.Int.{to_z-of_z}
 use Rattle.exact_math.specs.Ring.{integers}

@@ -1,0 +1,13 @@
+use Rattle.std.proofs.Common.{[], refl, subst}
+use Rattle.std.specs.Prelude.{None}
+use Rattle.root_gaps.specs.GapMoves.{IsGapMove}
+use Rattle.slice_branch.specs.ExcusedPaths.{excused_here}
+use Rattle.slice_branch.proofs.roots.gap_root.Goals as goal
+
+pub returns-in-Split : goal.returns-in-Split
+returns-in-Split c = λ best. subst (IsGapMove c.args.model.now.rows.now best) c.in-Split.is (c.in_ok-cut.ensures best)
+
+pub returns-in-Excused : goal.returns-in-Excused
+returns-in-Excused c =
+    let rows = c.args.model.now.rows.now in
+    (refl, excused_here rows [] None c.in-Excused._excuse (subst (IsGapMove rows None) c.in-Excused.is (c.in_ok-cut.ensures None)))

@@ -1,0 +1,42 @@
+//! The move of a node with a frame in the exact way, where the fast one gives up.
+ghost use Rattle.std.specs.Prelude.{◌≡◌, ◌≤◌, ◌+◌, length, IfOk};
+ghost use Rattle.farkas_rows.specs.Refutes.{HasForms};
+ghost use Rattle.node_regions.specs.NodeFrames.{IsNodeFrame};
+ghost use Rattle.reformulate.specs.Substitutions.{dimension_of};
+ghost use Rattle.slice_branch.specs.Framed.{IsTried};
+
+use exact_nodes::{Exact, exact_move};
+use node_lines::Node;
+use node_search::{OpenModel, Task};
+use proof_tree::Move;
+use reformulate::Frame;
+use sequence::NoMemory;
+use std::alloc::Global;
+
+/// The move of a node by exact fractions; none where the node is excused.
+pub(crate) fn exact_tried<'a>(
+    alloc: Global,
+    model: &'a OpenModel<'a>,
+    task: Task<'a>,
+    frame: &'a Frame,
+) -> Result<Option<Move>, NoMemory>
+    requires own { model.now.rows.now ≡ task.rows.now }
+    requires forms { HasForms (length task.rows.now.box) task.path.now }
+    requires node { IsNodeFrame task.rows.now task.path.now frame.now }
+    requires short { length task.path.now + dimension_of frame.now ≤ length task.rows.now.box }
+    ensures { IfOk result (IsTried task.entry.rows.now task.entry.path.now task.entry.best) }
+{
+    let node = Node {
+        model: task.rows,
+        work: &model.work,
+        frame,
+        path: task.path,
+        cut: task.best,
+    };
+    match exact_move(alloc, &node, &model.map)? {
+        Exact::Close(line) => Ok(Some(Move::Close(line))),
+        Exact::Point(point) => Ok(Some(Move::Point(point))),
+        Exact::Split(cut) => Ok(Some(Move::Split(cut))),
+        Exact::Excused(_excuse) => Ok(None),
+    }
+}

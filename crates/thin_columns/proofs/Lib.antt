@@ -1,0 +1,5 @@
+pub mod ColumnSteps
+pub mod SizeSteps
+pub mod RoomSteps
+pub mod SystemSteps
+pub mod StepSteps
