@@ -1,9 +1,10 @@
 -- The step of a width, and the slack at a point where a row is least.
-use Rattle.std.proofs.Common.{◌≡◌, ℕ, ◌*◌, ◌-◌, ◌^◌, ◌<◌, ◌≤◌, ℤ, pos, ◌≤ℤ◌, List, [], ◌∷◌, length, get_or, refl, sym, ap, ◌∙◌, subst, subst₂, arith}
+use Rattle.std.proofs.Common.{◌≡◌, ℕ, ◌+◌, ◌*◌, ◌-◌, ◌^◌, ◌<◌, ◌≤◌, ℤ, pos, negsuc, nat_abs, ◌*ℤ◌, ◌≤ℤ◌, List, [], ◌∷◌, length, get_or, refl, sym, ap, ◌∙◌, subst, subst₂, arith}
+use Rattle.std.proofs.Math.Nat.{mul_assoc, mul_comm, mul-le-mul_left, mul-le-mul_right}
 use Rattle.exact_math.specs.IntegerRing.{linear}
-use Rattle.exact_math.specs.Rational.{ℚ, whole, inv_ℚ, ◌-ℚ◌, ◌*ℚ◌, ◌/ℚ◌, ◌≤ℚ◌}
-use Rattle.exact_math.specs.RationalLaws.{pos-ne-zero}
-use Rattle.exact_math.specs.RationalOrder.{mul_le, mul_nonneg, whole_le}
+use Rattle.exact_math.specs.Rational.{ℚ, whole, frac, ratio, inv_ℚ, ◌-ℚ◌, ◌*ℚ◌, ◌/ℚ◌, ◌≤ℚ◌}
+use Rattle.exact_math.specs.RationalLaws.{den_pos, frac-self, pos-ne-zero}
+use Rattle.exact_math.specs.RationalOrder.{le_frac, le_trans, num_nonneg, mul_le, mul_nonneg, whole_le}
 use Rattle.exact_math.specs.RationalRing.{rationals, div_mul, whole_mul}
 use Rattle.exact_math.specs.RingLaws as Laws
 use Rattle.exact_math.specs.RingSolver.{ring, reads}
@@ -56,3 +57,31 @@ slack_is rows limits form i point value slack multipliers is long shows e = reco
   inside = subst (λ (n : ℕ). IsPoint n (left_sides rows) (wholes limits) point) long shows.meets;
   value_is = e ∙ ap (λ q. whole (get_or limits i (pos 0)) -ℚ q) (shows.at_point ∙ ap (λ (row : List ℤ). dot rationals (wholes row) point) is);
 }
+
+-- the step of a number that is at least the width is one of the width
+pub step_of_more : (r count : ℕ) (width more step : ℚ) → width ≤ℚ more → IsStepOf r count more step → IsStepOf r count width step
+step_of_more r count width more step le of = record {
+  room = of.room;
+  not_negative = of.not_negative;
+  step_is = of.step_is;
+  within = le_trans width more _ le of.within;
+}
+
+-- the terms of a fraction over a number, the first rounded up and the second down
+rounded_terms : (n d u q b : ℕ) → n ≤ (q + 1) * u → b * u ≤ d → n * b ≤ (q + 1) * d
+rounded_terms n d u q b over under =
+    let first : n * b ≤ ((q + 1) * u) * b = mul-le-mul_right b over in
+    let second : (q + 1) * (b * u) ≤ (q + 1) * d = mul-le-mul_left (q + 1) under in
+    let same : ((q + 1) * u) * b ≡ (q + 1) * (b * u) = mul_assoc (q + 1) u b ∙ ap (λ t. (q + 1) * t) (mul_comm u b) in
+    omega (arith, first, second, same)
+
+-- the number with such terms is no less
+pub rounded_most : (width : ℚ) (u q b : ℕ) → whole (pos 0) ≤ℚ width → 0 < b → nat_abs width.num ≤ (q + 1) * u → b * u ≤ width.den → width ≤ℚ ratio (pos (q + 1)) (pos b)
+unfolding ratio
+rounded_most width u q b nonneg some over under =
+    subst (λ w. w ≤ℚ frac (pos (q + 1)) b) (frac-self width)
+    (le_frac width.num (pos (q + 1)) width.den b (den_pos width) some (cross width.num (num_nonneg width nonneg) (rounded_terms (nat_abs width.num) width.den u q b over under)))
+  where
+    cross : (z : ℤ) → pos 0 ≤ℤ z → nat_abs z * b ≤ (q + 1) * width.den → (z *ℤ pos b) ≤ℤ (pos (q + 1) *ℤ pos width.den)
+    cross (pos n) positive h = omega (linear, h)
+    cross (negsuc n) positive h = absurd (omega linear)

@@ -19,6 +19,12 @@ use std::alloc::Global;
 /// The greatest exponent of four that is used, so that no number leaves 128 bits.
 const MOST_FOURS: usize = 20;
 
+/// The least denominator of a width that is rounded.
+const LONG: u128 = 1 << 80;
+
+/// By what the terms of such a width are divided.
+const UNIT: u128 = 1 << 48;
+
 // The greatest size of an entry.
 fn reach_of(entries: &[i128]) -> u128
     requires { All IsNarrow entries.now }
@@ -57,13 +63,29 @@ fn power_of_four(dimension: usize) -> u128
     4u128.pow(exponent as u32)
 }
 
-// So many times the room of which twice the power of four is the width.
+// A number that is at least the width and hardly more: the width itself where its denominator is short, else one with shorter
+// terms, so that its products stay in range. The width is a difference, and its denominator may be a product of two.
+fn rounded_up(width: &Frac) -> Result<Frac, Wide>
+    requires { whole (pos 0) ≤ℚ width.now }
+    ensures { IfOk result (λ rounded. width.now ≤ℚ rounded) }
+{
+    let size = width.num().unsigned_abs();
+    let divisor = width.den().unsigned_abs();
+    if divisor < LONG {
+        return Ok(*width);
+    }
+    let rounded = Frac::new((size / UNIT + 1) as i128, (divisor / UNIT) as i128)?;
+    Ok(rounded)
+}
+
+// So many times the room of which twice the power of four is the width, rounded up where it is long.
 fn step_of(dimension: usize, count: usize, width: &Frac) -> Result<Frac, Wide>
     requires some { 0 < dimension }
     requires not_negative { whole (pos 0) ≤ℚ width.now }
     ensures { IfOk result (IsStepOf dimension count width.now) }
 {
     let power = power_of_four(dimension);
+    let width = rounded_up(width)?;
     let room = width.div(&Frac::whole((2 * power) as i128))?;
     let step = room.mul(&Frac::whole(count as i128))?;
     Ok(step)
