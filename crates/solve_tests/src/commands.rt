@@ -238,7 +238,7 @@ const CHANGES: &[Change<'static>] = &[
         HEAVY,
         "79228162514264337593543950335\nBOUNDS\n BV x",
         "0\nBOUNDS\n UI x 79228162514264337593543950336",
-        "SPENT\nVALUE 0\nPOINT 0 x\n",
+        "OPTIMAL\nVALUE 0\nPOINT 0 x\n",
     ),
     (RANGED, " r -3", " r 3", "OPTIMAL\nVALUE 5\nPOINT 5 x\n"),
     (RANGED, " r -3", " r 0", "OPTIMAL\nVALUE 5\nPOINT 5 x\n"),
