@@ -17,7 +17,7 @@ use Rattle.lp_solve.specs.declared.answer.LpExcuse.{LpExcuse}
 use Rattle.lp_solve.specs.declared.answer.Solved.{Solved}
 use Rattle.lp_solve.specs.declared.answer.Solved.TheVariants.{Least, Empty}
 use Rattle.norm_gauge.specs.Gauges.{IsLeastAt, WidthExcuseIs}
-use Rattle.norm_gauge.specs.Widths.{Has, Polytope}
+use Rattle.norm_gauge.specs.Widths.{Has, IsInhabited, Polytope}
 use Rattle.generalised_reduce.specs.Halts.{ThinStopIs}
 use Rattle.generalised_reduce.specs.declared.answer.ThinStop.TheVariants as thin_stops
 use Rattle.thin_forms.specs.Candidates.{IsCandidate}
@@ -117,7 +117,7 @@ IsWideMap best frame work p form =
 abbrev pub IsExcusedBy : WholeRows → List Slice → Option ℤ → Substitution → ReducedRows → Excuse → Type 0
 IsExcusedBy rows path best frame work (Frame excuse) = ⊥
 IsExcusedBy rows path best frame work (Lp excuse) = IsProgramExcuse (node_polytope frame work best) (rows_in frame.to_work.lines) excuse
-IsExcusedBy rows path best frame work (Thin excuse) = ThinStopIs (node_polytope frame work best) (thin_stops.Excuse excuse)
+IsExcusedBy rows path best frame work (Thin excuse) = IsInhabited (node_polytope frame work best) × ThinStopIs (node_polytope frame work best) (thin_stops.Excuse excuse)
 IsExcusedBy rows path best frame work (Lift basis) = LeavesByLift rows path frame work (node_polytope frame work best) basis.pivots
 IsExcusedBy rows path best frame work (HeavyLine basis) = IsHeavyByLine rows path best frame work (node_polytope frame work best) basis.pivots
 IsExcusedBy rows path best frame work (HeavyForm form) = IsHeavyDirection rows frame work (node_polytope frame work best) form

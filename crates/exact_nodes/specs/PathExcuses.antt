@@ -1,5 +1,5 @@
 -- Why the nodes of a path are split by single columns.
-use Rattle.std.specs.Prelude.{◌≡◌, ◌⊎◌, ◌<◌, ◌^◌, ℤ, pos, ◌<ℤ◌, List, [], ◌∷◌, ◌++◌, length, All, Option, Some, None, FitsSigned}
+use Rattle.std.specs.Prelude.{◌≡◌, ◌⊎◌, ◌<◌, ◌^◌, ℤ, pos, ◌<ℤ◌, List, [], ◌∷◌, ◌++◌, length, get_or, All, Option, Some, None, FitsSigned}
 use Rattle.exact_math.specs.Rational.{ℚ, whole}
 use Rattle.exact_math.specs.Ring.{integers}
 use Rattle.exact_vectors.specs.Vectors.{negate}
@@ -58,10 +58,11 @@ CompletionStops frame equality (frame_excuses.Reduce excuse) = ⊥
 CompletionStops frame equality (frame_excuses.Product steps) =
     ((steps ≡ []) × EqualityLeaves frame equality) ⊎ StopsAfter (pulled_form frame.to_work equality.form) steps
 
--- legal gathering of that form gives the pair, and the slice of the frame by it stops
+-- legal gathering of that form gives the pair, whose first row it is, and the slice of the frame by it stops
 pub record PairStops (frame : Substitution) (equality : Equality) (excuse : FrameExcuse) : Type 0 where
   pub pair : Matrices
   pub gathered : IsGatheredPair (pulled_form frame.to_work equality.form) pair
+  pub first : get_or pair.u 0 [] ≡ pulled_form frame.to_work equality.form
   pub leaves : SliceLeaves frame pair (rest_of equality frame.to_work.base) excuse
 
 -- The path is that of a node with a frame and one slice more, and the excuse holds of the slice of the frame.

@@ -1,5 +1,5 @@
 -- What the steps of slicing a frame say of the slice of its node.
-use Rattle.std.proofs.Common.{◌≡◌, ◌⊎◌, inl, inr, ℤ, ◌-ℤ◌, List, [], ◌∷◌, ◌++◌, length, map, refl, sym, ap, subst, ◌∙◌, append_assoc}
+use Rattle.std.proofs.Common.{◌≡◌, ◌⊎◌, inl, inr, ℤ, ◌-ℤ◌, List, [], ◌∷◌, ◌++◌, length, map, get_or, refl, sym, ap, subst, ◌∙◌, append_assoc}
 use Rattle.std.proofs.lemmas.List.{map-append}
 use Rattle.whole_rows.specs.WholeRows.{WholeRows, row_at}
 use Rattle.farkas_rows.specs.declared.path.Slice.{Slice}
@@ -69,9 +69,10 @@ module _ (rows : WholeRows) (s : Substitution) (form : List ℤ) (beta : ℤ) (p
       excuse_of excuse (inl (subst (CompletionStops s equality) (sym stop.1) (inr (subst (λ (f : List ℤ). StopsAfter f stop.0) is stop.2))))
 
   -- in what follows
-  pub excuse_of_pair : (excuse : FrameExcuse) (kernel : List ℤ) (pair : Matrices) (value : ℤ) → kernel ≡ pulled_form s.to_work w → value ≡ beta -ℤ pulled_constant s.to_work w → IsGatheredPair kernel pair → SliceLeaves s pair value excuse → IsSliceExcuse rows (on_slice path form beta) excuse
-  excuse_of_pair excuse kernel pair value is is_value gathered leaves = excuse_of excuse (inr (record {
+  pub excuse_of_pair : (excuse : FrameExcuse) (kernel : List ℤ) (pair : Matrices) (value : ℤ) → kernel ≡ pulled_form s.to_work w → value ≡ beta -ℤ pulled_constant s.to_work w → IsGatheredPair kernel pair → get_or pair.u 0 [] ≡ kernel → SliceLeaves s pair value excuse → IsSliceExcuse rows (on_slice path form beta) excuse
+  excuse_of_pair excuse kernel pair value is is_value gathered first leaves = excuse_of excuse (inr (record {
     pair = pair;
     gathered = subst (λ (f : List ℤ). IsGatheredPair f pair) is gathered;
+    first = first ∙ is;
     leaves = subst (λ (v : ℤ). SliceLeaves s pair v excuse) is_value leaves;
   }))

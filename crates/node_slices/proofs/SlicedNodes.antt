@@ -1,5 +1,5 @@
 -- A slice of a node with a frame: its form over the kept columns and on the coordinates, its frame, and its excuses.
-use Rattle.std.proofs.Common.{◌≡◌, ◌+◌, ◌<◌, ℤ, ◌-ℤ◌, List, [], length, sym, ap, subst, ◌∙◌, arith, Result, Ok, Err}
+use Rattle.std.proofs.Common.{◌≡◌, ◌+◌, ◌<◌, ℤ, ◌-ℤ◌, List, [], length, get_or, sym, ap, subst, ◌∙◌, arith, Result, Ok, Err}
 use Rattle.std.specs.Prelude.{IfErr}
 use Rattle.std.specs.Result.{IsErrAnd}
 use Rattle.whole_rows.specs.WholeRows.{WholeRows}
@@ -65,6 +65,6 @@ module _ (rows : WholeRows) (placing : AffineMap) (is_map : IsColumnMap rows.box
   pub excused_there : (kernel : List ℤ) → kernel ≡ pulled_form s.to_work w → (excuse : FrameExcuse) → (steps : List Step) × (excuse ≡ excuses.Product steps) × StopsAfter kernel steps → (path : List Slice) → IsSlicedNode rows s form beta path → IsSliceExcuse rows (on_slice path form beta) excuse
   excused_there kernel is excuse stop path node = excuse_of_completion rows s form beta path node.of_node w (over_work path node) excuse kernel is stop
 
-  pub excused_behind : (kernel : List ℤ) (pair : Matrices) (value : ℤ) → kernel ≡ pulled_form s.to_work w → value ≡ beta -ℤ pulled_constant s.to_work w → IsGatheredPair kernel pair → (excuse : FrameExcuse) → SliceLeaves s pair value excuse → (path : List Slice) → IsSlicedNode rows s form beta path → IsSliceExcuse rows (on_slice path form beta) excuse
-  excused_behind kernel pair value is is_value gathered excuse leaves path node =
-      excuse_of_pair rows s form beta path node.of_node w (over_work path node) excuse kernel pair value is is_value gathered leaves
+  pub excused_behind : (kernel : List ℤ) (pair : Matrices) (value : ℤ) → kernel ≡ pulled_form s.to_work w → value ≡ beta -ℤ pulled_constant s.to_work w → IsGatheredPair kernel pair → get_or pair.u 0 [] ≡ kernel → (excuse : FrameExcuse) → SliceLeaves s pair value excuse → (path : List Slice) → IsSlicedNode rows s form beta path → IsSliceExcuse rows (on_slice path form beta) excuse
+  excused_behind kernel pair value is is_value gathered first excuse leaves path node =
+      excuse_of_pair rows s form beta path node.of_node w (over_work path node) excuse kernel pair value is is_value gathered first leaves

@@ -51,7 +51,7 @@ returns-in_err-slice-clause-stop c =
     let turned_fits : FitsSigned w128 turned.value = search rules in
     let turned_is : to_z w128 (of_z w128 turned.value) ≡ turned.value = to_z-of_z w128 turned.value turned_fits in
     handed_on _ _ c.from_residual-in_err-slice.result c.in_err-slice.field-0.0 c.from_residual-in_err-slice.ensures.1
-    (excused_behind c.args.rows.now c.args.map.now c.requires.map c.args.frame.now c.args.form.now c.args.value c.in_ok-work.work c.in_ok-work.ensures turned.form c.in_ok-pair.pair turned.value c.in_ok-turned.ensures.form (rw given_is at c.in_ok-turned.ensures.value) c.in_ok-pair.ensures.gathered)
+    (excused_behind c.args.rows.now c.args.map.now c.requires.map c.args.frame.now c.args.form.now c.args.value c.in_ok-work.work c.in_ok-work.ensures turned.form c.in_ok-pair.pair turned.value c.in_ok-turned.ensures.form (rw given_is at c.in_ok-turned.ensures.value) c.in_ok-pair.ensures.gathered c.in_ok-pair.ensures.first_row)
     (rw turned_is at c.in_err-slice.ensures.stop)
 
 pub returns-clause-framed : goal.returns-clause-framed
