@@ -11,7 +11,7 @@ use Rattle.farkas_rows.specs.declared.path.Slice.{Slice}
 use Rattle.farkas_rows.specs.Inequalities.{Inequality, above, below}
 use Rattle.farkas_rows.specs.LeastLine.{IsLeastLine}
 use Rattle.farkas_rows.specs.Refutes.{line_weight}
-use Rattle.proof_tree.specs.Moves.{IsNoHigher}
+use Rattle.proof_tree.specs.Moves.{IsNoHigher, IsValueOfPoint}
 use Rattle.spaces.specs.Maps.{pulled_form}
 use Rattle.lp_dict.specs.Systems.{wholes}
 use Rattle.unimodular_pair.specs.Gathering.{IsGatheredPair, StopsAfter}
@@ -65,14 +65,18 @@ pub record PairStops (frame : Substitution) (equality : Equality) (excuse : Fram
   pub first : get_or pair.u 0 [] ≡ pulled_form frame.to_work equality.form
   pub leaves : SliceLeaves frame pair (rest_of equality frame.to_work.base) excuse
 
--- The path is that of a node with a frame and one slice more, and the excuse holds of the slice of the frame.
+-- The frame is one of the node at the end of the path, and the excuse holds of this slice of it.
+pub record IsExcusedSlice (rows : WholeRows) (path : List Slice) (frame : Substitution) (slice : Slice) (excuse : FrameExcuse) : Type 0 where
+  pub of_node : IsNodeFrame rows path frame
+  pub stops : CompletionStops frame (work_slice of_node.work slice) excuse ⊎ PairStops frame (work_slice of_node.work slice) excuse
+
+-- the path is that of such a node and the slice more
 pub record IsSliceExcuse (rows : WholeRows) (path : List Slice) (excuse : FrameExcuse) : Type 0 where
   pub before : List Slice
   pub slice : Slice
   pub ends : path ≡ before ++ slice ∷ []
   pub frame : Substitution
-  pub of_node : IsNodeFrame rows before frame
-  pub stops : CompletionStops frame (work_slice of_node.work slice) excuse ⊎ PairStops frame (work_slice of_node.work slice) excuse
+  pub excused : IsExcusedSlice rows before frame slice excuse
 
 -- ---- gaps
 
@@ -123,25 +127,25 @@ pub record IsHeavyGapLine (rows : WholeRows) (path : List Slice) : Type 0 where
 
 -- ---- all of them
 
--- the excuse holds of the node in the coordinates of some frame of it
-pub record IsFramedExcuse (rows : WholeRows) (path : List Slice) (best : Option ℤ) (excuse : Excuse) : Type 0 where
-  pub frame : Substitution
+-- the frame is one of the node, and in its coordinates the excuse holds there
+pub record IsExcusedIn (rows : WholeRows) (path : List Slice) (best : Option ℤ) (frame : Substitution) (excuse : Excuse) : Type 0 where
   pub of_node : IsNodeFrame rows path frame
   pub excused : IsExcusedBy rows path best frame of_node.work excuse
 
 -- The excuse holds of the node at the end of the path, below the best value.
 pub data IsExcused (rows : WholeRows) (path : List Slice) (best : Option ℤ) (excuse : Excuse) : Type 0 where
-  framed : IsFramedExcuse rows path best excuse → IsExcused rows path best excuse
+  framed : (frame : Substitution) → IsExcusedIn rows path best frame excuse → IsExcused rows path best excuse
   root : (stop : FrameExcuse) → excuse ≡ Frame stop → IsRootExcuse rows path stop → IsExcused rows path best excuse
   slice : (stop : FrameExcuse) → excuse ≡ Frame stop → IsSliceExcuse rows path stop → IsExcused rows path best excuse
   gap_form : (form : List ℤ) → excuse ≡ HeavyForm form → IsHeavyGapForm rows path form → IsExcused rows path best excuse
   gap_line : excuse ≡ HeavyLine (record { pivots = [] }) → IsHeavyGapLine rows path → IsExcused rows path best excuse
 
--- The excuse holds of that node or of one above it, under no value, or under one that is not lower than the best one.
+-- The excuse holds of that node or of one above it, under no value, or under one that a point has and that is not lower than the best one.
 pub record IsExcusedAbove (rows : WholeRows) (path : List Slice) (best : Option ℤ) (excuse : Excuse) : Type 0 where
   pub node : List Slice
   pub rest : List Slice
   pub joined : path ≡ node ++ rest
   pub under : Option ℤ
+  pub of_point : IsValueOfPoint rows under
   pub not_lower : IsNoHigher best under
   pub excused : IsExcused rows node under excuse

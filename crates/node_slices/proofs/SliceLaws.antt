@@ -19,7 +19,7 @@ use Rattle.reformulate.specs.declared.outcome.FrameExcuse.{FrameExcuse}
 use Rattle.reformulate.specs.declared.outcome.FrameExcuse.TheVariants as excuses
 use Rattle.presolve_map.specs.ReducedRows.{ReducedRows}
 use Rattle.node_regions.specs.NodeFrames.{IsKeptForm, IsNodeFrame}
-use Rattle.exact_nodes.specs.PathExcuses.{CompletionStops, EqualityLeaves, IsSliceExcuse, PairStops}
+use Rattle.exact_nodes.specs.PathExcuses.{CompletionStops, EqualityLeaves, IsExcusedSlice, PairStops}
 use Rattle.node_slices.proofs.ReachLaws.{slice_reached}
 
 -- one equality more
@@ -49,27 +49,23 @@ module _ (rows : WholeRows) (s : Substitution) (form : List ℤ) (beta : ℤ) (p
 
   -- ---- excuses
 
-  excuse_of : (excuse : FrameExcuse) → CompletionStops s equality excuse ⊎ PairStops s equality excuse → IsSliceExcuse rows (on_slice path form beta) excuse
+  excuse_of : (excuse : FrameExcuse) → CompletionStops s equality excuse ⊎ PairStops s equality excuse → IsExcusedSlice rows path s (record { form = form; beta = beta }) excuse
   excuse_of excuse stops = record {
-    before = path;
-    slice = record { form = form; beta = beta };
-    ends = refl;
-    frame = s;
     of_node = h;
     stops = subst (λ (f : List ℤ). CompletionStops s (record { form = f; side = beta }) excuse ⊎ PairStops s (record { form = f; side = beta }) excuse) same stops;
   }
 
   -- before the first step
-  pub excuse_of_values : (excuse : FrameExcuse) → (excuse ≡ excuses.Product []) × EqualityLeaves s equality → IsSliceExcuse rows (on_slice path form beta) excuse
+  pub excuse_of_values : (excuse : FrameExcuse) → (excuse ≡ excuses.Product []) × EqualityLeaves s equality → IsExcusedSlice rows path s (record { form = form; beta = beta }) excuse
   excuse_of_values excuse leaves = excuse_of excuse (inl (subst (CompletionStops s equality) (sym leaves.0) (inl (refl, leaves.1))))
 
   -- in the gathering
-  pub excuse_of_completion : (excuse : FrameExcuse) (kernel : List ℤ) → kernel ≡ pulled_form s.to_work w → (steps : List Step) × (excuse ≡ excuses.Product steps) × StopsAfter kernel steps → IsSliceExcuse rows (on_slice path form beta) excuse
+  pub excuse_of_completion : (excuse : FrameExcuse) (kernel : List ℤ) → kernel ≡ pulled_form s.to_work w → (steps : List Step) × (excuse ≡ excuses.Product steps) × StopsAfter kernel steps → IsExcusedSlice rows path s (record { form = form; beta = beta }) excuse
   excuse_of_completion excuse kernel is stop =
       excuse_of excuse (inl (subst (CompletionStops s equality) (sym stop.1) (inr (subst (λ (f : List ℤ). StopsAfter f stop.0) is stop.2))))
 
   -- in what follows
-  pub excuse_of_pair : (excuse : FrameExcuse) (kernel : List ℤ) (pair : Matrices) (value : ℤ) → kernel ≡ pulled_form s.to_work w → value ≡ beta -ℤ pulled_constant s.to_work w → IsGatheredPair kernel pair → get_or pair.u 0 [] ≡ kernel → SliceLeaves s pair value excuse → IsSliceExcuse rows (on_slice path form beta) excuse
+  pub excuse_of_pair : (excuse : FrameExcuse) (kernel : List ℤ) (pair : Matrices) (value : ℤ) → kernel ≡ pulled_form s.to_work w → value ≡ beta -ℤ pulled_constant s.to_work w → IsGatheredPair kernel pair → get_or pair.u 0 [] ≡ kernel → SliceLeaves s pair value excuse → IsExcusedSlice rows path s (record { form = form; beta = beta }) excuse
   excuse_of_pair excuse kernel pair value is is_value gathered first leaves = excuse_of excuse (inr (record {
     pair = pair;
     gathered = subst (λ (f : List ℤ). IsGatheredPair f pair) is gathered;

@@ -20,7 +20,7 @@ use Rattle.reformulate.specs.declared.outcome.FrameStop.TheVariants as stops
 use Rattle.presolve_map.specs.Columns.{IsColumnMap}
 use Rattle.farkas_lift.specs.NodeEqualities.{work_form}
 use Rattle.node_regions.specs.NodeFrames.{IsNodeFrame}
-use Rattle.exact_nodes.specs.PathExcuses.{EqualityLeaves, IsSliceExcuse}
+use Rattle.exact_nodes.specs.PathExcuses.{EqualityLeaves, IsExcusedSlice}
 use Rattle.node_slices.specs.SliceNodes.{IsSlicedNode}
 use Rattle.node_slices.proofs.NodeForms.{columns_of_work, many_factors, primitive_of_node, pulled-work}
 use Rattle.node_slices.proofs.PrimitiveForms.{lowest, some_factor}
@@ -59,12 +59,12 @@ module _ (rows : WholeRows) (placing : AffineMap) (is_map : IsColumnMap rows.box
         (frame_of_slice rows s form beta path node.of_node w over_work t value node.kept is_value (subst (λ (f : List ℤ). IsSlice s f value t) is slice), slice.dimension)
 
   -- each excuse holds at each path
-  pub excused_before : (excuse : FrameExcuse) → (excuse ≡ excuses.Product []) × EqualityLeaves s (record { form = w; side = beta }) → (path : List Slice) → IsSlicedNode rows s form beta path → IsSliceExcuse rows (on_slice path form beta) excuse
+  pub excused_before : (excuse : FrameExcuse) → (excuse ≡ excuses.Product []) × EqualityLeaves s (record { form = w; side = beta }) → (path : List Slice) → IsSlicedNode rows s form beta path → IsExcusedSlice rows path s (record { form = form; beta = beta }) excuse
   excused_before excuse leaves path node = excuse_of_values rows s form beta path node.of_node w (over_work path node) excuse leaves
 
-  pub excused_there : (kernel : List ℤ) → kernel ≡ pulled_form s.to_work w → (excuse : FrameExcuse) → (steps : List Step) × (excuse ≡ excuses.Product steps) × StopsAfter kernel steps → (path : List Slice) → IsSlicedNode rows s form beta path → IsSliceExcuse rows (on_slice path form beta) excuse
+  pub excused_there : (kernel : List ℤ) → kernel ≡ pulled_form s.to_work w → (excuse : FrameExcuse) → (steps : List Step) × (excuse ≡ excuses.Product steps) × StopsAfter kernel steps → (path : List Slice) → IsSlicedNode rows s form beta path → IsExcusedSlice rows path s (record { form = form; beta = beta }) excuse
   excused_there kernel is excuse stop path node = excuse_of_completion rows s form beta path node.of_node w (over_work path node) excuse kernel is stop
 
-  pub excused_behind : (kernel : List ℤ) (pair : Matrices) (value : ℤ) → kernel ≡ pulled_form s.to_work w → value ≡ beta -ℤ pulled_constant s.to_work w → IsGatheredPair kernel pair → get_or pair.u 0 [] ≡ kernel → (excuse : FrameExcuse) → SliceLeaves s pair value excuse → (path : List Slice) → IsSlicedNode rows s form beta path → IsSliceExcuse rows (on_slice path form beta) excuse
+  pub excused_behind : (kernel : List ℤ) (pair : Matrices) (value : ℤ) → kernel ≡ pulled_form s.to_work w → value ≡ beta -ℤ pulled_constant s.to_work w → IsGatheredPair kernel pair → get_or pair.u 0 [] ≡ kernel → (excuse : FrameExcuse) → SliceLeaves s pair value excuse → (path : List Slice) → IsSlicedNode rows s form beta path → IsExcusedSlice rows path s (record { form = form; beta = beta }) excuse
   excused_behind kernel pair value is is_value gathered first excuse leaves path node =
       excuse_of_pair rows s form beta path node.of_node w (over_work path node) excuse kernel pair value is is_value gathered first leaves

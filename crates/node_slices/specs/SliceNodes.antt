@@ -8,7 +8,7 @@ use Rattle.spaces.specs.Maps.{pulled_form}
 use Rattle.reformulate.specs.Substitutions.{Substitution, dimension_of}
 use Rattle.farkas_lift.specs.NodeEqualities.{work_form}
 use Rattle.node_regions.specs.NodeFrames.{IsKeptForm, IsNodeFrame}
-use Rattle.exact_nodes.specs.PathExcuses.{IsSliceExcuse}
+use Rattle.exact_nodes.specs.PathExcuses.{IsExcusedSlice}
 use Rattle.node_slices.specs.declared.outcome.SliceFrame.{SliceFrame}
 use Rattle.node_slices.specs.declared.outcome.SliceFrame.TheVariants.{Framed, Excused}
 
@@ -27,7 +27,7 @@ pub record IsSlicedNode (rows : WholeRows) (frame : Substitution) (form : List �
   pub light : span form rows.box ≤ 2 ^ 96
   pub size : IsOfSize (2 ^ 98) value
 
--- a frame of the slice's node, of one coordinate less, or an excuse that holds there
+-- a frame of the slice's node, of one coordinate less, or an excuse that holds of this slice of the frame
 abbrev pub IsSliceAnswer : WholeRows → Substitution → List ℤ → ℤ → List Slice → SliceFrame → Type 0
 IsSliceAnswer rows frame form value path (Framed sliced) = IsNodeFrame rows (on_slice path form value) sliced.frame × (dimension_of sliced.frame + 1 ≡ dimension_of frame)
-IsSliceAnswer rows frame form value path (Excused excuse) = IsSliceExcuse rows (on_slice path form value) excuse
+IsSliceAnswer rows frame form value path (Excused excuse) = IsExcusedSlice rows path frame (record { form = form; beta = value }) excuse

@@ -2,7 +2,6 @@
 ghost use Rattle.std.specs.Prelude.{◌≡◌, ◌⊎◌, ◌≤◌, ◌^◌, ◌-ℤ◌, List, [], get_or, length, IfErr, IfOk};
 ghost use Rattle.whole_rows.specs.WholeRows.{span};
 ghost use Rattle.farkas_rows.specs.declared.path.Slice.{Slice};
-ghost use Rattle.proof_tree.specs.Trees.{on_slice};
 ghost use Rattle.spaces.specs.Maps.{pulled_constant, pulled_form};
 ghost use Rattle.unimodular_pair.specs.Gathering.{common_divisor, IsGatheredPair, StopsAfter};
 ghost use Rattle.unimodular_pair.specs.Pairs.{AreInverse};
@@ -12,7 +11,7 @@ ghost use Rattle.reformulate.specs.Substitutions.{columns_of, IsSubstitution};
 ghost use Rattle.reformulate.specs.declared.outcome.FrameExcuse.TheVariants as excuses;
 ghost use Rattle.presolve_map.specs.Columns.{IsColumnMap};
 ghost use Rattle.node_regions.specs.NodeFrames.{IsKeptForm};
-ghost use Rattle.exact_nodes.specs.PathExcuses.{EqualityLeaves, IsSliceExcuse};
+ghost use Rattle.exact_nodes.specs.PathExcuses.{EqualityLeaves, IsExcusedSlice};
 ghost use Rattle.node_slices.specs.SliceNodes.{IsSliceAnswer, IsSlicedNode};
 ghost use Rattle.node_slices.specs.declared.outcome.SliceFrame.TheVariants as answers;
 
@@ -108,7 +107,7 @@ fn slice_of(
     requires map { IsColumnMap rows.now.box map.now }
     requires there { (path : List Slice) × IsSlicedNode rows.now frame.now form.now value path }
     ensures framed { IfOk result (λ sliced. (path : List Slice) → IsSlicedNode rows.now frame.now form.now value path → IsSliceAnswer rows.now frame.now form.now value path (answers.Framed sliced)) }
-    ensures stop { IfErr result (StopsSo (λ excuse. (path : List Slice) → IsSlicedNode rows.now frame.now form.now value path → IsSliceExcuse rows.now (on_slice path form.now value) excuse)) }
+    ensures stop { IfErr result (StopsSo (λ excuse. (path : List Slice) → IsSlicedNode rows.now frame.now form.now value path → IsExcusedSlice rows.now path frame.now (record { form = form.now; beta = value }) excuse)) }
 {
     let work = over_kept(alloc, rows, map, form)?;
     let turned = turn(alloc, frame, &work, value)?;

@@ -8,7 +8,7 @@ use Rattle.whole_rows.specs.WholeRows.{WholeRows, Meets, IsWithinLimits, cut_val
 use Rattle.whole_rows.specs.WeightLaws.{dot_within}
 use Rattle.proof_tree.specs.declared.walk.Incumbent.{Incumbent}
 use Rattle.proof_tree.specs.Trees.{IsOfSize}
-use Rattle.proof_tree.specs.Moves.{IsNoHigher, nonnegative_part}
+use Rattle.proof_tree.specs.Moves.{IsNoHigher, IsValueOfPoint, nonnegative_part}
 use Rattle.proof_tree.specs.Search.{value_of_best, IsKnown}
 
 -- the cut value of a point is at most 2 to the power 96 in size
@@ -23,6 +23,11 @@ best-small rows None limits known = tt
 best-small rows (Some best) limits known =
     let small = cut_value-small rows best.point limits known.0 in
     (omega (linear, known.1), omega (linear, known.1))
+
+-- it is the value of a point
+pub known-value : (rows : WholeRows) (best : Option Incumbent) → IsKnown rows best → IsValueOfPoint rows (value_of_best best)
+known-value rows None known = tt
+known-value rows (Some best) known = (best.point, known.0, known.1)
 
 -- the order of values
 pub IsNoHigher-same : (value : Option ℤ) → IsNoHigher value value

@@ -18,6 +18,10 @@ use Rattle.proof_tree.specs.Trees.{on_slice, IsOfSize, IsSplitForm}
 abbrev pub IsNoHigher : Option ℤ → Option ℤ → Type 0
 IsNoHigher now before = IfSome before (λ value. IsSomeAnd now (λ lower. lower ≤ℤ value))
 
+-- the value, where there is one, is the cut value of a point
+abbrev pub IsValueOfPoint : WholeRows → Option ℤ → Type 0
+IsValueOfPoint rows value = IfSome value (λ number. (x : List ℤ) × Meets rows x × (number ≡ cut_value rows x))
+
 -- the number, or 0 where it is negative
 abbrev pub nonnegative_part : ℤ → ℕ
 nonnegative_part (pos n) = n

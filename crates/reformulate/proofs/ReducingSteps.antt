@@ -8,7 +8,7 @@ use Rattle.exact_vectors.specs.MatrixLaws as Matrix
 use Rattle.exact_vectors.specs.SumLaws as Sum
 use Rattle.exact_vectors.specs.Vectors.{zeros}
 use Rattle.gram_minors.specs.Orthogonalisation.{IsIndependent, IsLovaszReduced, rational_rows}
-use Rattle.lattice_reduce.specs.Beside.{ExcusedBeside, IsShifted, ReducesBeside}
+use Rattle.lattice_reduce.specs.Beside.{ExcusedBeside, IsShifted, IsShortBeside, ReducesBeside}
 use Rattle.lattice_reduce.specs.Numbers.{items_of}
 use Rattle.spaces.specs.Tables.{Table, rows_in}
 use Rattle.spaces.specs.TableLaws as Tables
@@ -103,6 +103,7 @@ pub record IsAnswered (base : List ℤ) (vectors basis : Table ℤ) (pair : Matr
   pub reduced : IsLovaszReduced vectors.width (rational_rows (items_of (rows_in basis))) vectors.rows
   pub product : rows_in basis ≡ times_matrix integers vectors.width pair.u (rows_in vectors)
   pub shifted : IsShifted vectors.width (rows_in basis) base last
+  pub short : IsShortBeside vectors.width (rows_in basis) last
 
 -- the pair has a row for each vector
 pub pair_rows : (base : List ℤ) (vectors basis : Table ℤ) (pair : Matrices) (last : List ℤ) (steps : List Step) → IsAnswered base vectors basis pair last steps → length pair.u ≡ vectors.rows
@@ -149,6 +150,7 @@ module _ (base : List ℤ) (back lines vectors basis turned new_lines new_back :
     reduced = subst₂ (λ n r. IsLovaszReduced n (rational_rows (items_of (rows_in basis))) r) (v.width ∙ sym e) (v.height ∙ sym count) a.reduced;
     product = a.product ∙ ap₂ (λ n l. times_matrix integers n pair.u l) (v.width ∙ sym e) (vectors_are back lines vectors h v);
     shifted = subst (λ n. IsShifted n (rows_in basis) base last) (v.width ∙ sym e) a.shifted;
+    short = subst (λ n. IsShortBeside n (rows_in basis) last) (v.width ∙ sym e) a.short;
     lines = made.lines ∙ ap (λ k. transpose k (rows_in basis)) (a.width ∙ v.width ∙ sym e);
     back = made.back_rows ∙ ap₂ (λ n l. times_matrix integers n l (rows_in back)) (h.width ∙ sym e) (made.turned_rows ∙ ap (λ k. transpose k pair.v) (pair_rows base vectors basis pair last steps a ∙ v.height ∙ sym count));
   }

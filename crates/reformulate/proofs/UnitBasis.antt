@@ -1,6 +1,7 @@
 -- The unit vectors are a reduced basis.
-use Rattle.std.proofs.Common.{◌≡◌, ◌≢◌, ⊎_elim, ℕ, zero, suc, ◌<◌, pos, negsuc, [], ◌∷◌, refl, sym, ap, ap₂, subst, subst₂, ◌∙◌, arith}
+use Rattle.std.proofs.Common.{◌≡◌, ◌≢◌, ⊎_elim, ℕ, zero, suc, ◌<◌, ℤ, pos, negsuc, List, [], ◌∷◌, length, get_or, refl, sym, ap, ap₂, subst, subst₂, ◌∙◌, arith}
 use Rattle.std.proofs.lemmas.Bool.{cases_eq}
+use Rattle.std.proofs.Math.Seq.{get_or-append_seam}
 use Rattle.exact_math.specs.IntegerRing.{linear}
 use Rattle.exact_math.specs.RingLaws as Laws
 use Rattle.exact_math.specs.RingSolver.{ring, reads}
@@ -8,10 +9,13 @@ use Rattle.exact_math.specs.Rational.{ℚ, whole, frac, ◌+ℚ◌, ◌-ℚ◌, 
 use Rattle.exact_math.specs.RationalLaws.{whole-frac, frac-neg}
 use Rattle.exact_math.specs.RationalOrder.{le_frac}
 use Rattle.exact_math.specs.RationalRing.{rationals}
+use Rattle.exact_math.specs.Ring.{integers}
+use Rattle.exact_vectors.specs.MatrixLaws.{zeros-at}
 use Rattle.exact_vectors.specs.SumLaws.{sum_below-zero}
-use Rattle.exact_vectors.specs.Vectors.{sum_below}
+use Rattle.exact_vectors.specs.Vectors.{sum_below, zeros}
 use Rattle.gram_minors.specs.Orthogonalisation.{inner, coefficient, orthogonal_part, star, mu, norm, rational_rows, IsAtMostHalf, IsLovaszReduced, LovaszHolds}
 use Rattle.gram_minors.specs.OrthogonalLaws.{below_next}
+use Rattle.lattice_reduce.specs.Beside.{with_last, IsShortBeside}
 use Rattle.lattice_reduce.specs.Numbers.{items_of}
 use Rattle.unimodular_pair.specs.PairLaws.{identity-other, identity-same}
 use Rattle.unimodular_pair.specs.Pairs.{identity}
@@ -96,3 +100,16 @@ module _ (n : ℕ) where
     size = λ k j lt below. subst IsAtMostHalf (sym (no_mu k j lt)) zero_is_small;
     neighbours = in_order;
   }
+
+-- a vector of zeros is short beside any rows
+pub zeros_are_short : (n : ℕ) (rows : List (List ℤ)) → IsShortBeside n rows (zeros integers n)
+zeros_are_short n rows j lt = subst IsAtMostHalf (sym (none_along n b (b (length rows)) (star n b j) nothing)) (zero_is_small n)
+  where
+    b : ℕ → ℕ → ℚ
+    b = rational_rows (items_of (with_last rows (zeros integers n)))
+
+    is_zero : (i : ℕ) → b (length rows) i ≡ whole (pos 0)
+    is_zero i = ap (λ (l : List ℤ). whole (get_or l i (pos 0))) (get_or-append_seam rows (zeros integers n) [] []) ∙ ap whole (zeros-at integers n i)
+
+    nothing : inner rationals n (b (length rows)) (star n b j) ≡ whole (pos 0)
+    nothing = sum_below-zero rationals n (λ i. b (length rows) i *ℚ star n b j i) (λ i below. ap (λ z. z *ℚ star n b j i) (is_zero i) ∙ Laws.zero_mul rationals (star n b j i))

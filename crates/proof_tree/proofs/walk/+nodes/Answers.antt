@@ -7,7 +7,7 @@ use Rattle.proof_tree.specs.declared.tree.Cut.{Cut}
 use Rattle.proof_tree.specs.declared.tree.PartSplit.{PartSplit}
 use Rattle.proof_tree.specs.Trees.{on_slice}
 use Rattle.proof_tree.specs.Search.{value_of_best}
-use Rattle.proof_tree.proofs.Values.{rest-falls, slice_fits, next_fits, rest_fits, count_fits}
+use Rattle.proof_tree.proofs.Values.{known-value, rest-falls, slice_fits, next_fits, rest_fits, count_fits}
 use Rattle.proof_tree.proofs.Slices.{SoFar-none, SoFar-more, SoFar-finished, AllSlices, AllSlices-worked, AllSlices-open}
 use Rattle.proof_tree.proofs.Nodes.{Worked-closed, Worked-split, Worked-stays, branches-from, child_of-from, child-plain}
 use Rattle.proof_tree.proofs.walk.+nodes.Goals as goal
@@ -56,7 +56,7 @@ work_slices-work_node-requires g t c κs within =
     let made = child_of-from g.B.Brancher.stands_for g.B.Brancher.height g.B.Brancher.is_plain g.B.Brancher.allows c.args.rows.now c.args.place.now c.in_ok-child.child (g.B.Brancher.rows c.loop-worked.brancher) c.args.cut c.loop-worked.cut c.args.walk.now.path (value_of_best c.args.walk.now.best) (to_z w128 c.loop-worked.worked-bits) c.loop-worked.invariant.works c.loop-worked.invariant.cut c.requires.stands c.requires.settled c.in_ok-child.ensures.place in
     let down = c.in_ok-enter.ensures.path in
     let below : g.B.Brancher.height c.args.rows.now c.in_ok-child.child c.enter.new.self.path + 1 ≤ g.B.Brancher.height c.args.rows.now c.args.place.now c.args.walk.now.path = rw (down, s.path, c.loop-worked.invariant.cut) made.lower in
-    (omega (arith, c.decreases, below), (within.0, (within.1, (c.in_ok-child.ensures.same ∙ c.loop-worked.invariant.works, (c.requires.limits, (rw (down, s.path, c.loop-worked.invariant.cut) (made.here (value_of_best c.loop-worked.walk.best) (g.met.B.Brancher.stands_lower c.args.rows.now c.args.place.now c.args.walk.now.path (value_of_best c.loop-worked.walk.best) (value_of_best c.args.walk.now.best) s.best.falls c.requires.stands)), (rw down s.best.known, (rw down c.if-walk-gt0.true, rw down (SoFar-finished (g.B.Brancher.allows c.args.rows.now) c.args.rows.now c.args.cut (g.B.Brancher.height c.args.rows.now c.args.place.now c.args.walk.now.path) c.args.walk.now c.loop-worked.walk (to_z w128 c.loop-worked.worked-bits) c.loop-worked.children.items s c.if-walk-gt0.true)))))))))
+    (omega (arith, c.decreases, below), (within.0, (within.1, (c.in_ok-child.ensures.same ∙ c.loop-worked.invariant.works, (c.requires.limits, (rw (down, s.path, c.loop-worked.invariant.cut) (made.here (value_of_best c.loop-worked.walk.best) (g.met.B.Brancher.stands_lower c.args.rows.now c.args.place.now c.args.walk.now.path (value_of_best c.loop-worked.walk.best) (value_of_best c.args.walk.now.best) (known-value c.args.rows.now c.loop-worked.walk.best s.best.known) s.best.falls c.requires.stands)), (rw down s.best.known, (rw down c.if-walk-gt0.true, rw down (SoFar-finished (g.B.Brancher.allows c.args.rows.now) c.args.rows.now c.args.cut (g.B.Brancher.height c.args.rows.now c.args.place.now c.args.walk.now.path) c.args.walk.now c.loop-worked.walk (to_z w128 c.loop-worked.worked-bits) c.loop-worked.children.items s c.if-walk-gt0.true)))))))))
 
 pub work_slices-loop-worked-smaller : goal.work_slices-loop-worked-smaller
 work_slices-loop-worked-smaller g t c =

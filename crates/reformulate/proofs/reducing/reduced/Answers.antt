@@ -25,7 +25,7 @@ product-requires-clause-fits c =
     let t = c.in_ok-vectors.ensures in
     let r = c.in-Ok.ensures in
     let v : AreVectors c.args.back c.args.lines.now c.in_ok-vectors.vectors = record { height = t.height; width = t.width; rows = t.rows } in
-    let a : IsAnswered c.args.base.now c.in_ok-vectors.vectors c.in-Ok.beside.basis c.in-Ok.beside.pair c.in-Ok.beside.last c.in-Ok.beside.steps = record { height = r.height; width = r.width; legal = r.legal; reduced = r.reduced; product = r.product; shifted = r.shifted } in
+    let a : IsAnswered c.args.base.now c.in_ok-vectors.vectors c.in-Ok.beside.basis c.in-Ok.beside.pair c.in-Ok.beside.last c.in-Ok.beside.steps = record { height = r.height; width = r.width; legal = r.legal; reduced = r.reduced; product = r.product; shifted = r.shifted; short = r.short } in
     c.in_ok-turned.ensures.width ∙ c.v.ensures.height ∙ pair_rows _ _ _ _ _ _ a ∙ t.height ∙ sym c.requires.shape.height
 
 pub returns-in-Err-Wide-clause-stop : goal.returns-in-Err-Wide-clause-stop
@@ -33,7 +33,7 @@ returns-in-Err-Wide-clause-stop c =
     let t = c.in_ok-vectors.ensures in
     let r = c.in-Ok.ensures in
     let v : AreVectors c.args.back c.args.lines.now c.in_ok-vectors.vectors = record { height = t.height; width = t.width; rows = t.rows } in
-    let a : IsAnswered c.args.base.now c.in_ok-vectors.vectors c.in-Ok.beside.basis c.in-Ok.beside.pair c.in-Ok.beside.last c.in-Ok.beside.steps = record { height = r.height; width = r.width; legal = r.legal; reduced = r.reduced; product = r.product; shifted = r.shifted } in
+    let a : IsAnswered c.args.base.now c.in_ok-vectors.vectors c.in-Ok.beside.basis c.in-Ok.beside.pair c.in-Ok.beside.last c.in-Ok.beside.steps = record { height = r.height; width = r.width; legal = r.legal; reduced = r.reduced; product = r.product; shifted = r.shifted; short = r.short } in
     let turned = c.in_ok-turned.ensures.rows ∙ ap (λ k. transpose k (rows_in c.v.result.now)) c.v.ensures.width ∙ ap (transpose _) c.v.ensures.rows in
     back_leaves c.args.base.now c.args.back c.args.lines.now c.in_ok-vectors.vectors c.in-Ok.beside.basis c.in_ok-turned.turned c.in-Ok.beside.pair c.in-Ok.beside.last c.in-Ok.beside.steps c.requires.as_many c.requires.shape v a turned (rw c.in-Err-Wide.field-0-is at c.in-Err-Wide.ensures.stop)
 
@@ -44,7 +44,7 @@ of-requires c =
     let p = c.in-Ok-product.ensures in
     let l = c.in_ok-lines.ensures in
     let v : AreVectors c.args.back c.args.lines.now c.in_ok-vectors.vectors = record { height = t.height; width = t.width; rows = t.rows } in
-    let a : IsAnswered c.args.base.now c.in_ok-vectors.vectors c.in-Ok.beside.basis c.in-Ok.beside.pair c.in-Ok.beside.last c.in-Ok.beside.steps = record { height = r.height; width = r.width; legal = r.legal; reduced = r.reduced; product = r.product; shifted = r.shifted } in
+    let a : IsAnswered c.args.base.now c.in_ok-vectors.vectors c.in-Ok.beside.basis c.in-Ok.beside.pair c.in-Ok.beside.last c.in-Ok.beside.steps = record { height = r.height; width = r.width; legal = r.legal; reduced = r.reduced; product = r.product; shifted = r.shifted; short = r.short } in
     let made : IsMade c.args.back c.in-Ok.beside.basis c.in_ok-turned.turned c.in_ok-lines.lines c.in-Ok-product.back c.in-Ok.beside.pair = record {
       turned_rows = c.in_ok-turned.ensures.rows ∙ ap (λ k. transpose k (rows_in c.v.result.now)) c.v.ensures.width ∙ ap (transpose _) c.v.ensures.rows;
       turned_height = c.in_ok-turned.ensures.height ∙ c.v.ensures.width;
@@ -66,7 +66,7 @@ of_maps-requires c =
     let p = c.in-Ok-product.ensures in
     let l = c.in_ok-lines.ensures in
     let v : AreVectors c.args.back c.args.lines.now c.in_ok-vectors.vectors = record { height = t.height; width = t.width; rows = t.rows } in
-    let a : IsAnswered c.args.base.now c.in_ok-vectors.vectors c.in-Ok.beside.basis c.in-Ok.beside.pair c.in-Ok.beside.last c.in-Ok.beside.steps = record { height = r.height; width = r.width; legal = r.legal; reduced = r.reduced; product = r.product; shifted = r.shifted } in
+    let a : IsAnswered c.args.base.now c.in_ok-vectors.vectors c.in-Ok.beside.basis c.in-Ok.beside.pair c.in-Ok.beside.last c.in-Ok.beside.steps = record { height = r.height; width = r.width; legal = r.legal; reduced = r.reduced; product = r.product; shifted = r.shifted; short = r.short } in
     let made : IsMade c.args.back c.in-Ok.beside.basis c.in_ok-turned.turned c.in_ok-lines.lines c.in-Ok-product.back c.in-Ok.beside.pair = record {
       turned_rows = c.in_ok-turned.ensures.rows ∙ ap (λ k. transpose k (rows_in c.v.result.now)) c.v.ensures.width ∙ ap (transpose _) c.v.ensures.rows;
       turned_height = c.in_ok-turned.ensures.height ∙ c.v.ensures.width;
@@ -89,7 +89,7 @@ returns-clause-ok c =
     let p = c.in-Ok-product.ensures in
     let l = c.in_ok-lines.ensures in
     let v : AreVectors c.args.back c.args.lines.now c.in_ok-vectors.vectors = record { height = t.height; width = t.width; rows = t.rows } in
-    let a : IsAnswered c.args.base.now c.in_ok-vectors.vectors c.in-Ok.beside.basis c.in-Ok.beside.pair c.in-Ok.beside.last c.in-Ok.beside.steps = record { height = r.height; width = r.width; legal = r.legal; reduced = r.reduced; product = r.product; shifted = r.shifted } in
+    let a : IsAnswered c.args.base.now c.in_ok-vectors.vectors c.in-Ok.beside.basis c.in-Ok.beside.pair c.in-Ok.beside.last c.in-Ok.beside.steps = record { height = r.height; width = r.width; legal = r.legal; reduced = r.reduced; product = r.product; shifted = r.shifted; short = r.short } in
     let made : IsMade c.args.back c.in-Ok.beside.basis c.in_ok-turned.turned c.in_ok-lines.lines c.in-Ok-product.back c.in-Ok.beside.pair = record {
       turned_rows = c.in_ok-turned.ensures.rows ∙ ap (λ k. transpose k (rows_in c.v.result.now)) c.v.ensures.width ∙ ap (transpose _) c.v.ensures.rows;
       turned_height = c.in_ok-turned.ensures.height ∙ c.v.ensures.width;
