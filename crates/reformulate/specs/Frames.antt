@@ -3,6 +3,7 @@ use Rattle.std.specs.Prelude.{◌≡◌, ℕ, ℤ, List, length}
 use Rattle.reformulate.specs.Charts.{chart_of}
 use Rattle.reformulate.specs.Framing.{IsReduced, Reach}
 use Rattle.reformulate.specs.Gaps.{IsGap}
+use Rattle.reformulate.specs.Misses.{EndsInGap}
 use Rattle.reformulate.specs.Solutions.{Solves}
 use Rattle.reformulate.specs.Substitutions.{Substitution, columns_of, coordinates_of, dimension_of, point_of}
 use Rattle.reformulate.specs.declared.equality.Equality.{Equality}
@@ -22,7 +23,7 @@ pub record IsReachedFrame (n : ℕ) (equalities : List Equality) (s : Substituti
   pub reach : Reach n equalities (chart_of s)
   pub reduced : IsReduced (chart_of s)
 
--- a frame of the equalities, or a gap, and no integer solution
+-- a frame of the equalities, or the gap in which legal framing ends, and no integer solution
 abbrev pub IsFramed : ℕ → List Equality → Framed → Type 0
 IsFramed n equalities (framed.Frame s) = IsReachedFrame n equalities s
-IsFramed n equalities (framed.NoIntegerPoint gap) = IsGap n equalities gap × ((x : List ℤ) → Solves n equalities x → ⊥)
+IsFramed n equalities (framed.NoIntegerPoint gap) = IsGap n equalities gap × EndsInGap n equalities gap × ((x : List ℤ) → Solves n equalities x → ⊥)

@@ -52,8 +52,14 @@ AreAllZero equalities = (k : ℕ) → HasNonzero (get_or (forms_of equalities) k
 abbrev pub raised : ℕ → ℤ → List ℤ → List ℤ
 raised place more times = set times place (get_or times place (pos 0) +ℤ more)
 
--- Times of common divisor 1 give a form of zeros and a side above 0. The divisor is one more than that side, and is added to the time of the first
--- equality whose form is not all 0, which is the gap's form. Where each form is all 0, nothing is added.
+-- The divisor is added to the time of the first equality whose form is not all 0, which is the gap's form. Where each form is all 0, nothing is added, and the
+-- gap's form is all 0.
+abbrev pub AddsDivisor : ℕ → List Equality → List ℤ → Gap → Type 0
+AddsDivisor n equalities times gap =
+    (AreAllZero equalities × (gap.times ≡ times) × (gap.form ≡ zeros integers n))
+    ⊎ ((place : ℕ) × IsFirst equalities place × (gap.times ≡ raised place gap.divisor times) × (gap.form ≡ get_or (forms_of equalities) place []))
+
+-- Times of common divisor 1 give a form of zeros and a side above 0. The divisor is one more than that side, and is added to one of them.
 pub record IsRaised (n : ℕ) (equalities : List Equality) (gap : Gap) : Type 0 where
   pub times : List ℤ
   pub value : ℤ
@@ -61,8 +67,7 @@ pub record IsRaised (n : ℕ) (equalities : List Equality) (gap : Gap) : Type 0 
   pub sum : SumUp n equalities times (zeros integers n) value
   pub positive : pos 0 <ℤ value
   pub divisor : gap.divisor ≡ value +ℤ pos 1
-  pub added : (AreAllZero equalities × (gap.times ≡ times) × (gap.form ≡ zeros integers n))
-      ⊎ ((place : ℕ) × IsFirst equalities place × (gap.times ≡ raised place gap.divisor times) × (gap.form ≡ get_or (forms_of equalities) place []))
+  pub added : AddsDivisor n equalities times gap
 
 -- The times give so many times the form as the divisor says, which is above 0, and a side that the divisor does not divide. So the form, which has
 -- whole values at whole points, would have to have a value that is not whole, and `lo` is the next whole number above it, or the nearer end of the

@@ -5,7 +5,7 @@ ghost use Rattle.exact_vectors.specs.Range.{StaysInRange};
 ghost use Rattle.exact_vectors.specs.Vectors.{dot};
 ghost use Rattle.row_lifting.specs.Stops.{StopsUnless};
 ghost use Rattle.reformulate.specs.Gaps.{sides_of, AreAllZero, IsCeiling, IsFirst, IsGap, IsNearest};
-ghost use Rattle.reformulate.specs.GapTimes.{AreTimes, GapStays, IsSignOf, Lacks, RaisedStays, RowStays};
+ghost use Rattle.reformulate.specs.GapTimes.{all_times, AreTimes, GapStays, IsMadeBy, IsSignOf, Lacks, RaisedStays, RowStays};
 
 use crate::equality::Equality;
 use crate::gap::Gap;
@@ -117,6 +117,7 @@ fn row_gap(
     requires times { AreTimes (length miss.now.row) equalities.now at miss.now times.items }
     requires some { miss.now.value ≢ pos 0 }
     ensures ok { IfOk result (IsGap (length miss.now.row) equalities.now) }
+    ensures made { IfOk result (IsMadeBy (length miss.now.row) equalities.now at miss.now times.items) }
     ensures stop { IfErr result (StopsUnless (RowStays equalities.now miss.now.value (get_or times.items at (pos 0)) times.items)) }
 {
     let Some(divisor) = times[at].checked_mul(miss.value) else {
@@ -138,6 +139,7 @@ fn raised_gap(
     requires times { AreTimes (length miss.now.row) equalities.now at miss.now times.items }
     requires none { miss.now.value ≡ pos 0 }
     ensures ok { IfOk result (IsGap (length miss.now.row) equalities.now) }
+    ensures made { IfOk result (IsMadeBy (length miss.now.row) equalities.now at miss.now times.items) }
     ensures stop { IfErr result (StopsUnless (RaisedStays equalities.now times.items)) }
 {
     let sides = sides_of(alloc, equalities)?;
@@ -187,6 +189,7 @@ pub(crate) fn shown_gap(
     requires lacks { Lacks (length miss.now.row) equalities.now at miss.now }
     requires sign { IsSignOf miss.now negative }
     ensures ok { IfOk result (IsGap (length miss.now.row) equalities.now) }
+    ensures made { IfOk result (IsMadeBy (length miss.now.row) equalities.now at miss.now (all_times equalities.now at miss.now negative)) }
     ensures stop { IfErr result (StopsUnless (GapStays equalities.now at miss.now negative)) }
 {
     let earlier = &equalities[..at];

@@ -15,8 +15,12 @@ use Rattle.exact_nodes.specs.ThinMoves.IsThinBy.{gap, along}
 use Rattle.node_slices.specs.SliceNodes.{IsSlicedNode}
 use Rattle.slice_branch.specs.declared.place.Node.{Node}
 use Rattle.slice_branch.specs.declared.place.Place.{Place}
+use Rattle.slice_branch.specs.declared.place.PlainNode.{PlainNode}
 use Rattle.slice_branch.specs.declared.place.Place.TheVariants.{Settled, Framed, Plain}
-use Rattle.slice_branch.specs.ExcusedPaths.{excused_below}
+use Rattle.exact_nodes.specs.PathExcuses.{IsExcusedAbove}
+use Rattle.exact_nodes.specs.declared.excuse.Excuse.{Excuse}
+use Rattle.slice_branch.specs.ExcusedPaths.{excused_below, excused_slice}
+use Rattle.slice_branch.specs.PlainPlaces.{IsPlainPlace}
 use Rattle.slice_branch.specs.Framed.{IsAllowed, IsMarked}
 use Rattle.slice_branch.specs.Places.{height_of, is_plain_place, IsFramedPlace, IsPathWithin, IsPlainFrom, IsSlicePlace, StandsFor}
 use Rattle.slice_branch.proofs.PlaceLaws.{begins_plain, longer, lower_framed, size, turns_plain, widest_is_small, within_slice}
@@ -26,14 +30,14 @@ use Rattle.slice_branch.proofs.PlainLaws.{below_plain, lower_plain}
 module _ (rows : WholeRows) (path : List Slice) (best : Option ℤ) where
   -- the path of a place keeps the limits
   pub within_of : (place : Place) → StandsFor rows place path best → IsPathWithin rows path
-  within_of (Settled move) here = here.0
-  within_of (Framed node) here = here.within
-  within_of (Plain depth) here = here.0.within
+  within_of (Settled move) here = here.1.0
+  within_of (Framed node) here = here.1.within
+  within_of (Plain node) here = here.1.0.within
 
   pub short_of : (place : Place) → StandsFor rows place path best → IsShort rows path
-  short_of (Settled move) here = omega (arith, ap length here.1)
-  short_of (Framed node) here = let s = here.short in omega (arith, s)
-  short_of (Plain depth) here = let s = here.0.short in let e = here.0.early in omega (arith, s, e)
+  short_of (Settled move) here = omega (arith, ap length here.1.1)
+  short_of (Framed node) here = let s = here.1.short in omega (arith, s)
+  short_of (Plain node) here = let s = here.1.0.short in let e = here.1.0.early in omega (arith, s, e)
 
   pub small_of : (place : Place) → StandsFor rows place path best → widest rows.box ≤ 2 ^ 97
   small_of place here = widest_is_small rows.box (within_of place here).limits.light.reaches
@@ -82,49 +86,64 @@ module _ (rows : WholeRows) (cut : Cut) (j : ℤ) (first : pos 0 ≤ℤ j) (last
   settled_ends move b = let h = b.chosen.1 (omega (linear, first, last)) in omega (arith, h)
 
   -- the slices of a plain place
-  pub plain_child : (depth : ℕ) → At (Plain depth) → Below (Plain depth) (Plain depth)
-  plain_child depth b =
-      let move = plain_mark rows path best cut (height_of rows (Plain depth) path) b.chosen b.allowed.1 in record {
-        here = λ other plain. (below_plain rows depth path plain.0 best cut j move b.allowed.0 first last, excused_below rows path (record { form = cut.form; beta = cut.lo +ℤ j } ∷ []) other plain.1);
-        lower = lower_plain rows depth path b.here.0 best cut j move b.allowed.0 first last;
+  pub plain_child : (node : PlainNode) (child : Place) → IsPlainPlace node.excuse.value node.depth child → At (Plain node) → Below (Plain node) child
+  plain_child node (Settled move) is b = absurd is
+  plain_child node (Framed child) is b = absurd is
+  plain_child node (Plain child) is b =
+      let move = plain_mark rows path best cut (height_of rows (Plain node) path) b.chosen b.allowed.1.0 in
+      let slice : List Slice = record { form = cut.form; beta = cut.lo +ℤ j } ∷ [] in
+      record {
+        here = λ other plain. (
+          plain.0,
+          subst (λ d. IsPlainFrom rows d (on_slice path cut.form (cut.lo +ℤ j))) (sym is.1) (below_plain rows node.depth path plain.1.0 best cut j move b.allowed.0 first last),
+          subst (λ (e : Excuse). IsExcusedAbove rows (on_slice path cut.form (cut.lo +ℤ j)) other e) (sym is.0) (excused_below rows path slice other node.excuse.value plain.1.1),
+        );
+        lower = subst (λ d. ((d + length rows.box) - length (on_slice path cut.form (cut.lo +ℤ j))) + 1 ≤ (node.depth + length rows.box) - length path) (sym is.1) (lower_plain rows node.depth path b.here.1.0 best cut j move b.allowed.0 first last);
         plain = λ h. refl;
       }
 
   -- the node of a slice of a node with a frame
   pub sliced_node : (node : Node) → At (Framed node) → IsSlicedNode rows node.frame cut.form (cut.lo +ℤ j) path
   sliced_node node b =
-      let thin = thin_mark rows path best cut (height_of rows (Framed node) path) b.chosen b.allowed.1 in
+      let thin = thin_mark rows path best cut (height_of rows (Framed node) path) b.chosen b.allowed.1.0 in
       let along_it = thin_with_slice rows path best cut (omega (linear, first, last)) thin.cause in
       record {
-        of_node = b.here.of_node;
+        of_node = b.here.1.of_node;
         kept = along_it.kept;
         primitive = record { frame = along_it.frame; of_node = along_it.of_node; primitive = along_it.direction.primitive };
         light = b.allowed.0.form.light;
-        size = size rows path best cut j b.here.within b.allowed.0 first last;
+        size = size rows path best cut j b.here.1.within b.allowed.0 first last;
       }
 
   -- and its place
-  pub framed_child : (node : Node) (child : Place) → IsSlicePlace rows node (on_slice path cut.form (cut.lo +ℤ j)) child → At (Framed node) → Below (Framed node) child
+  pub framed_child : (node : Node) (child : Place) → IsSlicePlace rows node path (record { form = cut.form; beta = cut.lo +ℤ j }) child → At (Framed node) → Below (Framed node) child
   framed_child node (Settled move) is b = absurd is
   framed_child node (Framed child) is b =
-      let thin = thin_mark rows path best cut (height_of rows (Framed node) path) b.chosen b.allowed.1 in
-      let more = longer rows path best cut j b.here.within b.allowed.0 first last in
+      let thin = thin_mark rows path best cut (height_of rows (Framed node) path) b.chosen b.allowed.1.0 in
+      let more = longer rows path best cut j b.here.1.within b.allowed.0 first last in
       record {
-        here = λ other framed. record {
-          within = within_slice rows path best cut j framed.within b.allowed.0 first last;
-          not_closed = framed.not_closed;
-          depth = let d = framed.depth in omega (arith, more, d, is.0);
-          of_node = is.1;
-          short = let s = framed.short in omega (arith, more, s, is.2);
-        };
-        lower = lower_framed rows path best cut j b.here.within b.allowed.0 first last thin;
+        here = λ other framed. (
+          framed.0,
+          record {
+            within = within_slice rows path best cut j framed.1.within b.allowed.0 first last;
+            not_closed = framed.1.not_closed;
+            depth = let d = framed.1.depth in omega (arith, more, d, is.0);
+            of_node = is.1;
+            short = let s = framed.1.short in omega (arith, more, s, is.2);
+          },
+        );
+        lower = lower_framed rows path best cut j b.here.1.within b.allowed.0 first last thin;
         plain = λ h. absurd (cc h);
       }
-  framed_child node (Plain depth) is b =
-      let thin = thin_mark rows path best cut (height_of rows (Framed node) path) b.chosen b.allowed.1 in
-      let deeper : depth ≡ length path + 1 = let d = b.here.depth in omega (arith, d, is.0) in
+  framed_child node (Plain child) is b =
+      let thin = thin_mark rows path best cut (height_of rows (Framed node) path) b.chosen b.allowed.1.0 in
+      let deeper : child.depth ≡ length path + 1 = let d = b.here.1.depth in omega (arith, d, is.0) in
       record {
-        here = λ other framed. (subst (λ d. IsPlainFrom rows d (on_slice path cut.form (cut.lo +ℤ j))) (sym deeper) (begins_plain rows path best cut j framed.within b.allowed.0 first last thin), is.1 other);
-        lower = subst (λ d. ((d + length rows.box) - length (on_slice path cut.form (cut.lo +ℤ j))) + 1 ≤ 2 * length rows.box - length path) (sym deeper) (place_laws.lower_plain rows path best cut j b.here.within b.allowed.0 first last thin);
+        here = λ other framed. (
+          framed.0,
+          subst (λ d. IsPlainFrom rows d (on_slice path cut.form (cut.lo +ℤ j))) (sym deeper) (begins_plain rows path best cut j framed.1.within b.allowed.0 first last thin),
+          excused_slice rows path node.frame (record { form = cut.form; beta = cut.lo +ℤ j }) child.excuse.value is.1 other,
+        );
+        lower = subst (λ d. ((d + length rows.box) - length (on_slice path cut.form (cut.lo +ℤ j))) + 1 ≤ 2 * length rows.box - length path) (sym deeper) (place_laws.lower_plain rows path best cut j b.here.1.within b.allowed.0 first last thin);
         plain = λ h. refl;
       }

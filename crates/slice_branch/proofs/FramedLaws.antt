@@ -26,11 +26,10 @@ use Rattle.node_regions.specs.NodeRegions.{IsInNode}
 use Rattle.node_lines.specs.NodeSystems.{IsFramedNode}
 use Rattle.exact_nodes.specs.ExactMoves.{IsNodeOf}
 use Rattle.exact_nodes.specs.NodeExcuses.{IsExcusedBy}
-use Rattle.exact_nodes.specs.PathExcuses.IsExcused.{framed}
+use Rattle.exact_nodes.specs.PathExcuses.{IsExcusedIn}
 use Rattle.exact_nodes.specs.ThinMoves.{IsThinAlong, IsThinMove}
 use Rattle.exact_nodes.specs.ThinMoves.IsThinBy.{along}
 use Rattle.exact_nodes.specs.declared.excuse.Excuse.{Excuse}
-use Rattle.slice_branch.specs.ExcusedPaths.{excused_here, IsExcusedPath}
 use Rattle.slice_branch.proofs.DimensionLaws.{dimension_few, some_coordinate}
 
 -- ---- work columns
@@ -121,10 +120,5 @@ module _ (rows : WholeRows) (path : List Slice) (frame : Substitution) (node : I
     }
 
     -- an excuse of the node in its frame
-    pub excused_there : (best : Option ℤ) (excuse : Excuse) → IsExcusedBy rows path best frame work excuse → IsExcusedPath rows path best
-    excused_there best excuse h =
-        excused_here rows path best excuse (framed (record {
-          frame = frame;
-          of_node = node;
-          excused = subst (λ (w : ReducedRows). IsExcusedBy rows path best frame w excuse) (sym same) h;
-        }))
+    pub excused_there : (best : Option ℤ) (excuse : Excuse) → IsExcusedBy rows path best frame work excuse → IsExcusedIn rows path best frame excuse
+    excused_there best excuse h = record { of_node = node; excused = subst (λ (w : ReducedRows). IsExcusedBy rows path best frame w excuse) (sym same) h }

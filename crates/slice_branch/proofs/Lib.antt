@@ -1,4 +1,5 @@
 mod BrancherLaws
+mod ChangeLaws
 mod DimensionLaws
 mod FramedLaws
 mod PlaceLaws

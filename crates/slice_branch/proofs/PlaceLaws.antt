@@ -14,11 +14,12 @@ use Rattle.proof_tree.specs.declared.tree.Mark.TheVariants.{Thin}
 use Rattle.proof_tree.specs.declared.tree.Move.{Move}
 use Rattle.proof_tree.specs.declared.tree.Move.TheVariants.{Close, Split, Point}
 use Rattle.proof_tree.specs.Trees.{IsOfSize, on_slice}
-use Rattle.proof_tree.specs.Moves.{widest, nonnegative_part, SplitsUnder, IsMove}
+use Rattle.proof_tree.specs.Moves.{widest, nonnegative_part, SplitsUnder, IsMove, IsValueOfPoint}
 use Rattle.exact_nodes.specs.ThinMoves.{IsThinMove}
 use Rattle.exact_nodes.specs.ThinMoves.IsThinBy.{gap}
 use Rattle.root_gaps.specs.GapMoves.{IsGapMove}
 use Rattle.root_gaps.specs.declared.outcome.GapMove.TheVariants as gap_moves
+use Rattle.slice_branch.specs.ExcusedPaths.{excused_here}
 use Rattle.slice_branch.specs.Framed.{IsFramedMove, IsAllowed, IsMarked}
 use Rattle.node_search.specs.declared.directions.ends.Direction.{Direction}
 use Rattle.slice_branch.specs.declared.place.Place.{Place}
@@ -38,10 +39,10 @@ module _ (rows : WholeRows) (path : List Slice) (best : Option ℤ) where
   move_of_framed (Point x) h = h
 
   -- and is allowed
-  pub framed_is_allowed : (move : Move) → IsFramedMove rows path best move → IsAllowed rows path best move
-  framed_is_allowed (Close line) h = h
-  framed_is_allowed (Split cut) h = (h.0, subst (IsMarked rows path best cut) (sym h.2) h.1)
-  framed_is_allowed (Point x) h = h
+  pub framed_is_allowed : IsValueOfPoint rows best → (move : Move) → IsFramedMove rows path best move → IsAllowed rows path best move
+  framed_is_allowed value (Close line) h = h
+  framed_is_allowed value (Split cut) h = (h.0, subst (IsMarked rows path best cut) (sym h.2) h.1, value)
+  framed_is_allowed value (Point x) h = h
 
 -- so is the move that settles a root
 module _ (rows : WholeRows) (best : Option ℤ) where
@@ -49,19 +50,19 @@ module _ (rows : WholeRows) (best : Option ℤ) where
   gap_thin cut h = record { short = λ some. absurd (omega (linear, h.1.none, some)); cause = gap h.1 }
 
   settled_chosen : (settled : Settled) → IsSettledBy rows settled → IsMove rows [] best 0 false (move_of settled)
-  settled_chosen (Closed line) h = h best
+  settled_chosen (Closed line) h = h.1 best
   settled_chosen (Gap cut) h = let g = h best in (g.0, (λ some. absurd (omega (linear, g.1.none, some))), ((λ plain. absurd (cc (g.2, plain))), (λ t. absurd (cc t))))
 
-  settled_allowed : (settled : Settled) → IsSettledBy rows settled → IsAllowed rows [] best (move_of settled)
-  settled_allowed (Closed line) h = h best
-  settled_allowed (Gap cut) h = let g = h best in (g.0, subst (IsMarked rows [] best cut) (sym g.2) (gap_thin cut g))
+  settled_allowed : IsValueOfPoint rows best → (settled : Settled) → IsSettledBy rows settled → IsAllowed rows [] best (move_of settled)
+  settled_allowed value (Closed line) h = h.1 best
+  settled_allowed value (Gap cut) h = let g = h best in (g.0, subst (IsMarked rows [] best cut) (sym g.2) (gap_thin cut g), value)
 
   module _ (path : List Slice) (root : path ≡ []) (settled : Settled) (is : IsSettledBy rows settled) where
     pub chosen_at_root : IsMove rows path best 0 false (move_of settled)
     chosen_at_root = subst (λ (p : List Slice). IsMove rows p best 0 false (move_of settled)) (sym root) (settled_chosen settled is)
 
-    pub allowed_at_root : IsAllowed rows path best (move_of settled)
-    allowed_at_root = subst (λ (p : List Slice). IsAllowed rows p best (move_of settled)) (sym root) (settled_allowed settled is)
+    pub allowed_at_root : IsValueOfPoint rows best → IsAllowed rows path best (move_of settled)
+    allowed_at_root value = subst (λ (p : List Slice). IsAllowed rows p best (move_of settled)) (sym root) (settled_allowed value settled is)
 
 -- the difference between two bounds within the limits
 difference : (b : Bounds) → reach b ≤ 2 ^ 96 → (b.high -ℤ b.low) ≤ℤ pos (2 ^ 97)
@@ -165,15 +166,15 @@ root_within rows limits = record {
 
 -- the place of a root stands for it
 pub root_stands : (rows : WholeRows) → IsWithinLimits rows → (place : Place) → IsRootPlace rows place → StandsFor rows place [] None
-root_stands rows limits (places.Settled move) h = (root_within rows limits, refl, h)
-root_stands rows limits (places.Framed node) h = record {
+root_stands rows limits (places.Settled move) h = (tt, root_within rows limits, refl, h)
+root_stands rows limits (places.Framed node) h = (tt, record {
   within = root_within rows limits;
   not_closed = h.1;
   depth = sym h.0;
   of_node = h.2;
   short = let d = h.3 in omega (arith, d);
-}
-root_stands rows limits (places.Plain depth) h = (subst (λ d. IsPlainFrom rows d []) (sym h.0) (turns_plain rows [] (root_within rows limits) (omega arith)), h.1)
+})
+root_stands rows limits (places.Plain node) h = (tt, subst (λ d. IsPlainFrom rows d []) (sym h.0) (turns_plain rows [] (root_within rows limits) (omega arith)), excused_here rows [] None node.excuse.value tt h.1)
 
 -- what follows of a value follows of an answer
 pub on_ok : {T E : Type 0} (P Q : T → Type 0) (result : Result T E) → ((value : T) → P value → Q value) → IfOk result P → IfOk result Q

@@ -12,7 +12,7 @@ use Rattle.proof_tree.specs.declared.tree.Cut.{Cut}
 use Rattle.proof_tree.specs.declared.tree.Move.{Move}
 use Rattle.proof_tree.specs.declared.tree.Move.TheVariants.{Close, Split, Point}
 use Rattle.proof_tree.specs.Trees.{IsOfSize, on_slice}
-use Rattle.proof_tree.specs.Moves.{SplitsUnder, IsMove}
+use Rattle.proof_tree.specs.Moves.{SplitsUnder, IsMove, IsValueOfPoint}
 use Rattle.proof_tree.specs.Soundness.{on_slice-each, on_slice-forms}
 use Rattle.plain_slices.specs.Shut.{IsColumn, IsFixedBy}
 use Rattle.plain_slices.specs.PlainMoves.{IsPlainMove, IsPlainAnswer}
@@ -91,7 +91,7 @@ module _ (rows : WholeRows) (depth : ℕ) (path : List Slice) (plain : IsPlainFr
     lower_plain = let d = reached cut move in let b = plain.behind in omega (arith, length_push path slice, d, b, move.is_column)
 
 -- the answer of a plain node that is excused is allowed
-pub plain_is_allowed : (rows : WholeRows) (path : List Slice) (best : Option ℤ) → IsExcusedPath rows path best → (move : Move) → IsPlainAnswer rows path best move → IsAllowed rows path best move
-plain_is_allowed rows path best excused (Close line) h = h.1
-plain_is_allowed rows path best excused (Split cut) h = (h.1, subst (IsMarked rows path best cut) (sym h.0.mark) (h.0, excused))
-plain_is_allowed rows path best excused (Point x) h = h.2
+pub plain_is_allowed : (rows : WholeRows) (path : List Slice) (best : Option ℤ) → IsValueOfPoint rows best → IsExcusedPath rows path best → (move : Move) → IsPlainAnswer rows path best move → IsAllowed rows path best move
+plain_is_allowed rows path best value excused (Close line) h = h.1
+plain_is_allowed rows path best value excused (Split cut) h = (h.1, subst (IsMarked rows path best cut) (sym h.0.mark) (h.0, excused), value)
+plain_is_allowed rows path best value excused (Point x) h = h.2

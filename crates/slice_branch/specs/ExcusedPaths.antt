@@ -1,17 +1,25 @@
 -- Nodes that are split by single columns, because such a node has an excuse, or one above it.
-use Rattle.std.proofs.Common.{ℤ, List, [], ◌++◌, append_assoc, sym, ◌∙◌, ap, arith}
+use Rattle.std.proofs.Common.{◌≡◌, ℤ, List, [], ◌∷◌, ◌++◌, append_assoc, refl, sym, ◌∙◌, ap, arith}
 use Rattle.std.specs.Prelude.{Option, Some, None}
 use Rattle.std.proofs.lemmas.Int.{ints}
 use Rattle.std.proofs.lemmas.List.{append-nil}
 use Rattle.whole_rows.specs.WholeRows.{WholeRows}
 use Rattle.farkas_rows.specs.declared.path.Slice.{Slice}
-use Rattle.proof_tree.specs.Moves.{IsNoHigher}
-use Rattle.exact_nodes.specs.PathExcuses.{IsExcused, IsExcusedAbove}
+use Rattle.proof_tree.specs.Moves.{IsNoHigher, IsValueOfPoint}
+use Rattle.reformulate.specs.Substitutions.{Substitution}
+use Rattle.reformulate.specs.declared.outcome.FrameExcuse.{FrameExcuse}
+use Rattle.exact_nodes.specs.PathExcuses.{IsExcused, IsExcusedAbove, IsExcusedSlice}
+use Rattle.exact_nodes.specs.PathExcuses.IsExcused.{slice}
 use Rattle.exact_nodes.specs.declared.excuse.Excuse.{Excuse}
+use Rattle.exact_nodes.specs.declared.excuse.Excuse.TheVariants.{Frame}
 
 -- the node at the end of the path is excused, or one above it
 abbrev pub IsExcusedPath : WholeRows → List Slice → Option ℤ → Type 0
 IsExcusedPath rows path best = (excuse : Excuse) × IsExcusedAbove rows path best excuse
+
+-- the excuse is that this slice of the frame, which is one of the node, has none
+abbrev pub IsExcusedBySlice : WholeRows → List Slice → Substitution → Slice → Excuse → Type 0
+IsExcusedBySlice rows path frame slice excuse = (stop : FrameExcuse) × (excuse ≡ Frame stop) × IsExcusedSlice rows path frame slice stop
 
 -- no value is higher than itself
 pub not_higher : (value : Option ℤ) → IsNoHigher value value
@@ -25,44 +33,43 @@ no_higher now None (Some z) a b = absurd b
 no_higher None (Some y) (Some z) a b = absurd a
 no_higher (Some x) (Some y) (Some z) a b = omega (arith, ints, a, b)
 
--- an excuse of the node itself
-pub excused_here : (rows : WholeRows) (path : List Slice) (best : Option ℤ) (excuse : Excuse) → IsExcused rows path best excuse → IsExcusedPath rows path best
-excused_here rows path best excuse h = (
-  excuse,
-  record {
-    node = path;
-    rest = [];
-    joined = sym (append-nil path);
-    under = best;
-    not_lower = not_higher best;
-    excused = h;
-  },
-)
+-- an excuse of the node itself, under a value that a point has
+pub excused_here : (rows : WholeRows) (path : List Slice) (best : Option ℤ) (excuse : Excuse) → IsValueOfPoint rows best → IsExcused rows path best excuse → IsExcusedAbove rows path best excuse
+excused_here rows path best excuse value h = record {
+  node = path;
+  rest = [];
+  joined = sym (append-nil path);
+  under = best;
+  of_point = value;
+  not_lower = not_higher best;
+  excused = h;
+}
 
 -- an excuse holds under each lower best value
-pub excused_lower : (rows : WholeRows) (path : List Slice) (now before : Option ℤ) → IsNoHigher now before → IsExcusedPath rows path before → IsExcusedPath rows path now
-excused_lower rows path now before lower h = (
-  h.0,
-  record {
-    node = h.1.node;
-    rest = h.1.rest;
-    joined = h.1.joined;
-    under = h.1.under;
-    not_lower = no_higher now before h.1.under lower h.1.not_lower;
-    excused = h.1.excused;
-  },
-)
+pub excused_lower : (rows : WholeRows) (path : List Slice) (now before : Option ℤ) (excuse : Excuse) → IsNoHigher now before → IsExcusedAbove rows path before excuse → IsExcusedAbove rows path now excuse
+excused_lower rows path now before excuse lower h = record {
+  node = h.node;
+  rest = h.rest;
+  joined = h.joined;
+  under = h.under;
+  of_point = h.of_point;
+  not_lower = no_higher now before h.under lower h.not_lower;
+  excused = h.excused;
+}
 
 -- and below the node
-pub excused_below : (rows : WholeRows) (path more : List Slice) (best : Option ℤ) → IsExcusedPath rows path best → IsExcusedPath rows (path ++ more) best
-excused_below rows path more best h = (
-  h.0,
-  record {
-    node = h.1.node;
-    rest = h.1.rest ++ more;
-    joined = ap (λ (l : List Slice). l ++ more) h.1.joined ∙ append_assoc h.1.node h.1.rest more;
-    under = h.1.under;
-    not_lower = h.1.not_lower;
-    excused = h.1.excused;
-  },
-)
+pub excused_below : (rows : WholeRows) (path more : List Slice) (best : Option ℤ) (excuse : Excuse) → IsExcusedAbove rows path best excuse → IsExcusedAbove rows (path ++ more) best excuse
+excused_below rows path more best excuse h = record {
+  node = h.node;
+  rest = h.rest ++ more;
+  joined = ap (λ (l : List Slice). l ++ more) h.joined ∙ append_assoc h.node h.rest more;
+  under = h.under;
+  of_point = h.of_point;
+  not_lower = h.not_lower;
+  excused = h.excused;
+}
+
+-- a slice that has no frame is excused, whatever the best value is
+pub excused_slice : (rows : WholeRows) (path : List Slice) (frame : Substitution) (last : Slice) (excuse : Excuse) → IsExcusedBySlice rows path frame last excuse → (best : Option ℤ) → IsExcusedAbove rows (path ++ last ∷ []) best excuse
+excused_slice rows path frame last excuse h best =
+    excused_lower rows (path ++ last ∷ []) best None excuse tt (excused_here rows (path ++ last ∷ []) None excuse tt (slice h.0 h.1 (record { before = path; slice = last; ends = refl; frame = frame; excused = h.2 })))

@@ -1,8 +1,10 @@
+pub mod Changes
 pub mod ClosedEnds
 pub mod ExcusedPaths
 pub mod Framed
 pub mod Marked
 pub mod Places
+pub mod PlainPlaces
 pub mod Roots
 pub mod SeenPoints
 pub mod Settling

@@ -6,7 +6,6 @@ ghost use Rattle.node_regions.specs.NodeFrames.{IsNodeFrame};
 ghost use Rattle.node_slices.specs.SliceNodes.{IsSlicedNode};
 ghost use Rattle.presolve_map.specs.Roots.{IsClosedRoot};
 ghost use Rattle.proof_tree.specs.Moves.{widest, Branches};
-ghost use Rattle.proof_tree.specs.Trees.{on_slice};
 ghost use Rattle.reformulate.specs.Substitutions.{dimension_of};
 ghost use Rattle.slice_branch.specs.Framed.{IsAllowed, IsTried};
 ghost use Rattle.slice_branch.specs.Places.{height_of, is_plain_place, IsRootPlace, IsSlicePlace, StandsFor};
@@ -14,8 +13,8 @@ ghost use Rattle.slice_branch.specs.Roots.{IsRootOf, IsRootOf-prop};
 ghost use Rattle.slice_branch.specs.declared.place.Place.TheVariants.{Framed};
 
 use crate::check::widest_of;
-use crate::exact::exact_tried;
-use crate::place::{Node, Place, Settled};
+use crate::exact::{Tried, exact_tried};
+use crate::place::{Node, Place, Settled, plain_place};
 use crate::roots::{Root, open_root, root_equalities};
 use crate::settled::{copy_of, settled_move};
 use crate::slices::slice_place;
@@ -106,20 +105,20 @@ impl<'a> SliceBrancher<'a> {
 }
 
 impl SliceBrancher<'_> {
-    /// The move of a node with a frame: in the fast way, or else in the exact one. None where the node is excused.
+    /// The move of a node with a frame: in the fast way, or else in the exact one. Or its excuse in this frame.
     fn node_move<'x>(
         &'x self,
         frame: &'x Frame,
         programs: &mut Programs,
         path: &'x Path,
         best: Option<i128>,
-    ) -> Result<Option<Move>, NoMemory>
+    ) -> Result<Tried, NoMemory>
         requires not_closed { ¬ (IsClosedRoot self.now.rows.now) }
         requires node { IsNodeFrame self.now.rows.now path.now frame.now }
         requires short { length path.now + dimension_of frame.now ≤ length self.now.rows.now.box }
         requires forms { HasForms (length self.now.rows.now.box) path.now }
         requires small { widest self.now.rows.now.box ≤ 2 ^ 97 }
-        ensures { IfOk result (IsTried self.now.rows.now path.now best) }
+        ensures { IfOk result (IsTried self.entry.now.rows.now path.entry.now best frame.entry.now) }
     {
         let model = self.model();
         let task = Task {
@@ -133,7 +132,7 @@ impl SliceBrancher<'_> {
             most: self.most,
         };
         match framed_move(self.alloc, model, task, given, programs) {
-            Ok(found) => Ok(Some(found)),
+            Ok(found) => Ok(Tried::Moved(found)),
             Err(Halt::NoMemory) => Err(NoMemory),
             Err(Halt::GivesUp) => exact_tried(self.alloc, model, task, frame),
         }
@@ -144,7 +143,7 @@ impl SliceBrancher<'_> {
         requires branches { (path : List Slice) × (best : Option ℤ) × Branches StandsFor height_of is_plain_place IsAllowed self.now.rows.now (Framed node.now) cut.now path best }
         requires first { pos 0 ≤ℤ j }
         requires last { j <ℤ cut.now.count }
-        ensures { IfOk result (λ place. (path : List Slice) → IsSlicedNode self.now.rows.now node.now.frame cut.now.form (cut.now.lo +ℤ j) path → IsSlicePlace self.now.rows.now node.now (on_slice path cut.now.form (cut.now.lo +ℤ j)) place) }
+        ensures { IfOk result (λ place. (path : List Slice) → IsSlicedNode self.now.rows.now node.now.frame cut.now.form (cut.now.lo +ℤ j) path → IsSlicePlace self.now.rows.now node.now path (record { form = cut.now.form; beta = cut.now.lo +ℤ j }) place) }
     {
         slice_place(self.alloc, self.model(), node, &cut.form, cut.lo + j)
     }
@@ -155,6 +154,7 @@ impl Brancher for SliceBrancher<'_> {
 
     ghost use Rattle.slice_branch.specs.Framed.{IsAllowed};
     ghost use Rattle.slice_branch.specs.Places.{StandsFor, height_of, is_plain_place, path_is_short, stands_under};
+    ghost use Rattle.slice_branch.specs.Changes.{Becomes, Begins};
 
     ghost rows = { λ brancher. brancher.rows.now };
 
@@ -165,6 +165,10 @@ impl Brancher for SliceBrancher<'_> {
     ghost is_plain = { is_plain_place };
 
     ghost allows = { IsAllowed };
+
+    ghost becomes = { Becomes };
+
+    ghost begins = { Begins };
 
     fn work(
         &mut self,
@@ -179,12 +183,13 @@ impl Brancher for SliceBrancher<'_> {
             Place::Settled(settled) => settled_move(self.alloc, settled),
             Place::Plain(_) => plain_move(self.alloc, self.rows, path, best),
             Place::Framed(node) => {
-                let tried = self.node_move(&node.frame, &mut node.programs, path, best)?;
-                if let Some(found) = tried {
-                    return Ok(found);
+                match self.node_move(&node.frame, &mut node.programs, path, best)? {
+                    Tried::Moved(found) => Ok(found),
+                    Tried::Excused(excuse) => {
+                        *place = plain_place(self.alloc, excuse, path.items().len())?;
+                        plain_move(self.alloc, self.rows, path, best)
+                    }
                 }
-                *place = Place::Plain(path.items().len());
-                plain_move(self.alloc, self.rows, path, best)
             }
         }
     }
@@ -192,12 +197,12 @@ impl Brancher for SliceBrancher<'_> {
     fn child(&mut self, place: &Place, cut: &Cut, j: i128) -> Result<Place, NoMemory> {
         match place {
             Place::Settled(_) => unreachable!(),
-            Place::Plain(depth) => Ok(Place::Plain(*depth)),
+            Place::Plain(node) => node.below(),
             Place::Framed(node) => self.framed_child(node, cut, j),
         }
     }
 
-    ghost stands_lower = { λ rows place path now before lower here. stands_under rows place path now before lower here };
+    ghost stands_lower = { λ rows place path now before value lower here. stands_under rows place path now before value lower here };
 
     ghost short = { λ rows place path best here. path_is_short rows place path best here };
 }

@@ -5,7 +5,7 @@ ghost use Rattle.node_regions.specs.NodeFrames.{IsNodeFrame};
 ghost use Rattle.reformulate.specs.Substitutions.{dimension_of};
 ghost use Rattle.slice_branch.specs.Framed.{IsTried};
 
-use exact_nodes::{Exact, exact_move};
+use exact_nodes::{Exact, Excuse, exact_move};
 use node_lines::Node;
 use node_search::{OpenModel, Task};
 use proof_tree::Move;
@@ -13,18 +13,27 @@ use reformulate::Frame;
 use sequence::NoMemory;
 use std::alloc::Global;
 
-/// The move of a node by exact fractions; none where the node is excused.
+/// What comes of a node.
+#[derive(Drop)]
+pub(crate) enum Tried {
+    /// Its move.
+    Moved(Move),
+    /// Why it has none along a thin direction.
+    Excused(Excuse),
+}
+
+/// The move of a node by exact fractions, or its excuse in this frame.
 pub(crate) fn exact_tried<'a>(
     alloc: Global,
     model: &'a OpenModel<'a>,
     task: Task<'a>,
     frame: &'a Frame,
-) -> Result<Option<Move>, NoMemory>
+) -> Result<Tried, NoMemory>
     requires own { model.now.rows.now ≡ task.rows.now }
     requires forms { HasForms (length task.rows.now.box) task.path.now }
     requires node { IsNodeFrame task.rows.now task.path.now frame.now }
     requires short { length task.path.now + dimension_of frame.now ≤ length task.rows.now.box }
-    ensures { IfOk result (IsTried task.entry.rows.now task.entry.path.now task.entry.best) }
+    ensures { IfOk result (IsTried task.entry.rows.now task.entry.path.now task.entry.best frame.entry.now) }
 {
     let node = Node {
         model: task.rows,
@@ -34,9 +43,9 @@ pub(crate) fn exact_tried<'a>(
         cut: task.best,
     };
     match exact_move(alloc, &node, &model.map)? {
-        Exact::Close(line) => Ok(Some(Move::Close(line))),
-        Exact::Point(point) => Ok(Some(Move::Point(point))),
-        Exact::Split(cut) => Ok(Some(Move::Split(cut))),
-        Exact::Excused(_excuse) => Ok(None),
+        Exact::Close(line) => Ok(Tried::Moved(Move::Close(line))),
+        Exact::Point(point) => Ok(Tried::Moved(Move::Point(point))),
+        Exact::Split(cut) => Ok(Tried::Moved(Move::Split(cut))),
+        Exact::Excused(excuse) => Ok(Tried::Excused(excuse)),
     }
 }

@@ -6,7 +6,8 @@ ghost use Rattle.reformulate.specs.Frames.{IsReachedFrame};
 ghost use Rattle.reformulate.specs.Gaps.{IsGap};
 ghost use Rattle.slice_branch.specs.Places.{IsRootPlace};
 
-use crate::place::{Node, Place, Settled};
+use crate::place::{Node, Place, Settled, plain_place};
+use exact_nodes::Excuse;
 use farkas_lift::node_equalities;
 use farkas_rows::{Line, Path};
 use node_search::{OpenModel, Programs};
@@ -38,7 +39,7 @@ fn gap_root<'a>(alloc: Global, model: &'a OpenModel<'a>, gap: &Gap) -> Result<Pl
 {
     match gap_move(alloc, model.rows, &model.work, &model.map, gap)? {
         GapMove::Split(cut) => Ok(Place::Settled(Settled::Gap(cut))),
-        GapMove::Excused(_excuse) => Ok(Place::Plain(0)),
+        GapMove::Excused(excuse) => plain_place(alloc, excuse, 0),
     }
 }
 
@@ -71,7 +72,7 @@ pub(crate) fn open_root<'a>(alloc: Global, model: &'a OpenModel<'a>) -> Result<P
     match Frame::of(alloc, model.work.columns(), &equalities) {
         Ok(Framed::Frame(frame)) => framed_root(alloc, model, &equalities, frame),
         Ok(Framed::NoIntegerPoint(gap)) => gap_root(alloc, model, &gap),
-        Err(FrameStop::Excuse(_excuse)) => Ok(Place::Plain(0)),
+        Err(FrameStop::Excuse(excuse)) => plain_place(alloc, Excuse::Frame(excuse), 0),
         Err(FrameStop::NoMemory) => Err(NoMemory),
     }
 }

@@ -1,11 +1,11 @@
 //! The place of a slice of a node with a frame.
 ghost use Rattle.std.specs.Prelude.{◌≡◌, ◌≤◌, ◌+◌, List, IfOk};
 ghost use Rattle.farkas_rows.specs.declared.path.Slice.{Slice};
-ghost use Rattle.proof_tree.specs.Trees.{on_slice};
 ghost use Rattle.node_slices.specs.SliceNodes.{IsSlicedNode};
 ghost use Rattle.slice_branch.specs.Places.{IsSlicePlace};
 
-use crate::place::{Node, Place};
+use crate::place::{Node, Place, plain_place};
+use exact_nodes::Excuse;
 use node_search::{OpenModel, Sliced};
 use node_slices::{SliceFrame, slice_frame};
 use sequence::NoMemory;
@@ -22,7 +22,7 @@ pub(crate) fn slice_place<'a>(
 ) -> Result<Place, NoMemory>
     requires depth { node.now.depth ≤ 256 }
     requires there { (path : List Slice) × IsSlicedNode model.now.rows.now node.now.frame form.now value path }
-    ensures { IfOk result (λ place. (path : List Slice) → IsSlicedNode model.now.rows.now node.now.frame form.now value path → IsSlicePlace model.now.rows.now node.now (on_slice path form.now value) place) }
+    ensures { IfOk result (λ place. (path : List Slice) → IsSlicedNode model.now.rows.now node.now.frame form.now value path → IsSlicePlace model.now.rows.now node.now path (record { form = form.now; beta = value }) place) }
 {
     match slice_frame(alloc, model.rows, &model.map, &node.frame, form, value)? {
         SliceFrame::Framed(sliced) => {
@@ -41,6 +41,6 @@ pub(crate) fn slice_place<'a>(
                 depth: node.depth + 1,
             }))
         }
-        SliceFrame::Excused(_excuse) => Ok(Place::Plain(node.depth + 1)),
+        SliceFrame::Excused(excuse) => plain_place(alloc, Excuse::Frame(excuse), node.depth + 1),
     }
 }
