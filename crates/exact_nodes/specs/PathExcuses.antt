@@ -20,6 +20,7 @@ use Rattle.reformulate.specs.Charts.{chart_of}
 use Rattle.reformulate.specs.Excuses.{ExcusedOn, ValuesStay}
 use Rattle.reformulate.specs.Framing.{rest_of}
 use Rattle.reformulate.specs.Gaps.{IsGap}
+use Rattle.reformulate.specs.Misses.{EndsInGap}
 use Rattle.reformulate.specs.Slices.{SliceLeaves}
 use Rattle.reformulate.specs.Substitutions.{Substitution}
 use Rattle.reformulate.specs.declared.equality.Equality.{Equality}
@@ -34,7 +35,6 @@ use Rattle.farkas_lift.specs.NodeLifting.{root_uses}
 use Rattle.node_lines.specs.NodeLines.{end_number}
 use Rattle.node_regions.specs.NodeFrames.{IsKeptForm, IsNodeFrame}
 use Rattle.exact_nodes.specs.NodeExcuses.{IsExcusedBy}
-use Rattle.exact_nodes.specs.ThinMoves.{IsGapForm}
 use Rattle.exact_nodes.specs.declared.excuse.Excuse.{Excuse}
 use Rattle.exact_nodes.specs.declared.excuse.Excuse.TheVariants.{Frame, HeavyForm, HeavyLine}
 use mir.Syntax.{w128}
@@ -80,11 +80,20 @@ pub record IsSliceExcuse (rows : WholeRows) (path : List Slice) (excuse : FrameE
 
 -- ---- gaps
 
--- the form of a gap of the root's equalities weighs above 2 to the power 96
+-- The gap in which legal framing of the root's equalities ends, and its form over all columns, 0 in those that presolving removes.
+pub record IsRootGap (rows : WholeRows) (work : ReducedRows) (gap : Gap) (form : List ℤ) : Type 0 where
+  pub presolved : IsReduced rows work
+  pub shown : IsGap (length work.rows.box) (node_equalities work []) gap
+  pub ends : EndsInGap (length work.rows.box) (node_equalities work []) gap
+  pub kept : IsKeptForm rows.box form
+  pub same_form : work_form work form ≡ gap.form
+
+-- its form weighs above 2 to the power 96
 pub record IsHeavyGapForm (rows : WholeRows) (path : List Slice) (form : List ℤ) : Type 0 where
   pub root : path ≡ []
-  pub lo : ℤ
-  pub gap : IsGapForm rows form lo
+  pub work : ReducedRows
+  pub gap : Gap
+  pub of_root : IsRootGap rows work gap form
   pub heavy : 2 ^ 96 < span form rows.box
 
 -- the inequality at the end of a form at the root, so many times
@@ -114,12 +123,9 @@ pub record IsHeavyWith (rows : WholeRows) (work : ReducedRows) (divisor : ℤ) (
 pub record IsHeavyGapLine (rows : WholeRows) (path : List Slice) : Type 0 where
   pub root : path ≡ []
   pub work : ReducedRows
-  pub presolved : IsReduced rows work
   pub gap : Gap
-  pub shown : IsGap (length work.rows.box) (node_equalities work []) gap
   pub form : List ℤ
-  pub kept : IsKeptForm rows.box form
-  pub same_form : work_form work form ≡ gap.form
+  pub of_root : IsRootGap rows work gap form
   pub end : Inequality
   pub times : List ℤ
   pub is_end : IsGapEnd form gap end times
