@@ -30,7 +30,7 @@ use Rattle.farkas_lift.proofs.JoinedLaws.{joined-at}
 use Rattle.node_lines.specs.declared.halt.LineHalt.{LineHalt}
 use Rattle.node_lines.specs.declared.halt.LineHalt.TheVariants.{Wide, Heavy, NoMemory}
 use Rattle.node_lines.proofs.Refuting.{combination-negate}
-use Rattle.exact_nodes.specs.PathExcuses.{IsHeavyGapLine, IsHeavyWith}
+use Rattle.exact_nodes.specs.PathExcuses.{IsHeavyGapLine, IsHeavyWith, IsRootGap}
 use Rattle.exact_nodes.proofs.NodeFacts.{over_kept}
 use Rattle.root_gaps.specs.GapEnds.{HaltsGap, IsFormOfGap, IsPastBox, IsRefutedBy}
 
@@ -134,16 +134,16 @@ module _ (rows : WholeRows) (work : ReducedRows) (gap : Gap) (form : List ℤ) (
 
   -- ---- lines that are too large
 
+  of_root : IsRootGap rows work gap form
+  of_root = record { presolved = is.presolved; shown = is.shown; ends = is.ends; kept = is.kept; same_form = is.same }
+
   pub lower-heavy : IsHeavyWith rows work gap.divisor (negate rationals (wholes gap.times)) (Some (below form gap.lo)) → IsHeavyGapLine rows []
   lower-heavy heavy = record {
     root = refl;
     work = work;
-    presolved = is.presolved;
     gap = gap;
-    shown = is.shown;
     form = form;
-    kept = is.kept;
-    same_form = is.same;
+    of_root = of_root;
     end = below form gap.lo;
     times = negate integers gap.times;
     is_end = inl (refl, refl);
@@ -154,12 +154,9 @@ module _ (rows : WholeRows) (work : ReducedRows) (gap : Gap) (form : List ℤ) (
   lower-leaves leaves = record {
     root = refl;
     work = work;
-    presolved = is.presolved;
     gap = gap;
-    shown = is.shown;
     form = form;
-    kept = is.kept;
-    same_form = is.same;
+    of_root = of_root;
     end = below form gap.lo;
     times = negate integers gap.times;
     is_end = inl (refl, refl);
@@ -170,12 +167,9 @@ module _ (rows : WholeRows) (work : ReducedRows) (gap : Gap) (form : List ℤ) (
   upper-heavy heavy = record {
     root = refl;
     work = work;
-    presolved = is.presolved;
     gap = gap;
-    shown = is.shown;
     form = form;
-    kept = is.kept;
-    same_form = is.same;
+    of_root = of_root;
     end = above form gap.lo;
     times = gap.times;
     is_end = inr (refl, refl);
@@ -186,12 +180,9 @@ module _ (rows : WholeRows) (work : ReducedRows) (gap : Gap) (form : List ℤ) (
   upper-leaves leaves = record {
     root = refl;
     work = work;
-    presolved = is.presolved;
     gap = gap;
-    shown = is.shown;
     form = form;
-    kept = is.kept;
-    same_form = is.same;
+    of_root = of_root;
     end = above form gap.lo;
     times = gap.times;
     is_end = inr (refl, refl);
@@ -202,12 +193,9 @@ module _ (rows : WholeRows) (work : ReducedRows) (gap : Gap) (form : List ℤ) (
   times-leave leave = record {
     root = refl;
     work = work;
-    presolved = is.presolved;
     gap = gap;
-    shown = is.shown;
     form = form;
-    kept = is.kept;
-    same_form = is.same;
+    of_root = of_root;
     end = above form gap.lo;
     times = gap.times;
     is_end = inr (refl, refl);

@@ -7,6 +7,7 @@ use Rattle.whole_rows.specs.WholeRows.{WholeRows, span}
 use Rattle.farkas_rows.specs.Inequalities.{above, below}
 use Rattle.farkas_rows.specs.declared.line.Line.{Line}
 use Rattle.reformulate.specs.Gaps.{IsGap, IsNearest}
+use Rattle.reformulate.specs.Misses.{EndsInGap}
 use Rattle.reformulate.specs.declared.gap.Gap.{Gap}
 use Rattle.presolve_map.specs.ReducedRows.{ReducedRows, IsReduced}
 use Rattle.proof_tree.specs.Trees.{IsOfSize}
@@ -36,8 +37,8 @@ module _ (rows : WholeRows) (work : ReducedRows) (gap : Gap) (form : List ℤ) (
   of_gap = record { work = work; presolved = presolved; gap = gap; shown = shown; kept = kept; same_form = same; same_lo = refl }
 
   -- the form is too heavy
-  pub heavy-form : 2 ^ 96 < span form rows.box → (best : Option ℤ) → IsGapMove rows best (Excused (HeavyForm form))
-  heavy-form heavy best = gap_form form refl (record { root = refl; lo = gap.lo; gap = of_gap; heavy = heavy })
+  pub heavy-form : EndsInGap (length work.rows.box) (node_equalities work []) gap → 2 ^ 96 < span form rows.box → (best : Option ℤ) → IsGapMove rows best (Excused (HeavyForm form))
+  heavy-form ends heavy best = gap_form form refl (record { root = refl; work = work; gap = gap; of_root = record { presolved = presolved; shown = shown; ends = ends; kept = kept; same_form = same }; heavy = heavy })
 
   -- the split
   pub gap-split : length form ≡ length rows.box → span form rows.box ≤ 2 ^ 96 → (All (λ factor. factor ≡ pos 0) form → ⊥) → (lower upper : Line) → ClosesEnd rows (Some (below form gap.lo)) lower → ClosesEnd rows (Some (above form gap.lo)) upper

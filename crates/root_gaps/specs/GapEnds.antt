@@ -8,6 +8,7 @@ use Rattle.farkas_rows.specs.Refutes.{IsDense}
 use Rattle.farkas_rows.specs.declared.fracs.FracUse.{FracUse}
 use Rattle.farkas_rows.specs.declared.line.Line.{Line}
 use Rattle.reformulate.specs.Gaps.{SumUp, IsGap}
+use Rattle.reformulate.specs.Misses.{EndsInGap}
 use Rattle.reformulate.specs.declared.gap.Gap.{Gap}
 use Rattle.presolve_map.specs.LiftedLines.{bound_of, IsOverKept}
 use Rattle.presolve_map.specs.ReducedRows.{ReducedRows, IsReduced}
@@ -19,10 +20,11 @@ use Rattle.node_regions.specs.NodeFrames.{IsKeptForm}
 use Rattle.proof_tree.specs.Moves.{ClosesUnder}
 use Rattle.exact_nodes.specs.PathExcuses.{IsHeavyGapLine}
 
--- The form over all columns is that of the gap of the root's equalities, 0 in the columns that presolving removes.
+-- The form over all columns is that of the gap in which legal framing of the root's equalities ends, 0 in the columns that presolving removes.
 pub record IsFormOfGap (rows : WholeRows) (work : ReducedRows) (gap : Gap) (form : List ℤ) : Type 0 where
   pub presolved : IsReduced rows work
   pub shown : IsGap (length work.rows.box) (node_equalities work []) gap
+  pub ends : EndsInGap (length work.rows.box) (node_equalities work []) gap
   pub kept : IsKeptForm rows.box form
   pub same : work_form work form ≡ gap.form
   pub dense : length form ≡ length rows.box

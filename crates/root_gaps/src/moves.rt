@@ -5,6 +5,7 @@ ghost use Rattle.presolve_map.specs.Columns.{IsColumnMap};
 ghost use Rattle.presolve_map.specs.ReducedRows.{IsReduced};
 ghost use Rattle.presolve_map.specs.Roots.{IsClosedRoot};
 ghost use Rattle.reformulate.specs.Gaps.{IsGap};
+ghost use Rattle.reformulate.specs.Misses.{EndsInGap};
 ghost use Rattle.node_lines.specs.declared.halt.LineHalt.TheVariants as halts;
 ghost use Rattle.exact_nodes.specs.declared.excuse.Excuse.TheVariants.{HeavyLine};
 ghost use Rattle.root_gaps.specs.GapMoves.{IsGapMove};
@@ -36,7 +37,7 @@ fn no_lines(alloc: Global, halt: LineHalt) -> Result<GapMove, NoMemory>
     Ok(GapMove::Excused(Excuse::HeavyLine(LineBasis { pivots })))
 }
 
-/// The split of a root along the form of a gap of its equalities, which has no whole value there. The map is that of presolving,
+/// The split of a root along the form of the gap in which legal framing of its equalities ends, which has no whole value there. The map is that of presolving,
 /// which did not close the root.
 ///
 /// `Excused` comes only where the form weighs above 2 to the power 96, or a line of the gap's times above 2 to the power 126, or
@@ -52,6 +53,7 @@ pub fn gap_move(
     requires presolved { IsReduced rows.now work.now }
     requires open { IsClosedRoot rows.now → ⊥ }
     requires gap { IsGap (length work.now.rows.box) (node_equalities work.now []) gap.now }
+    requires ends { EndsInGap (length work.now.rows.box) (node_equalities work.now []) gap.now }
     ensures { IfOk result (λ found. (best : Option ℤ) → IsGapMove rows.now best found) }
 {
     let form = gap_form(alloc, rows, work, map, gap)?;

@@ -4,4 +4,5 @@ mod DimensionLaws
 mod FramedLaws
 mod PlaceLaws
 mod PlainLaws
+mod PlainPlaceLaws
 mod ShownLaws

@@ -4,6 +4,7 @@ ghost use Rattle.farkas_lift.specs.NodeEqualities.{node_equalities};
 ghost use Rattle.presolve_map.specs.Roots.{IsClosedRoot};
 ghost use Rattle.reformulate.specs.Frames.{IsReachedFrame};
 ghost use Rattle.reformulate.specs.Gaps.{IsGap};
+ghost use Rattle.reformulate.specs.Misses.{EndsInGap};
 ghost use Rattle.slice_branch.specs.Places.{IsRootPlace};
 
 use crate::place::{Node, Place, Settled, plain_place};
@@ -35,6 +36,7 @@ pub(crate) fn root_equalities(alloc: Global, model: &OpenModel) -> Result<Equali
 fn gap_root<'a>(alloc: Global, model: &'a OpenModel<'a>, gap: &Gap) -> Result<Place, NoMemory>
     requires open { ¬ (IsClosedRoot model.now.rows.now) }
     requires gap { IsGap (length model.now.work.rows.box) (node_equalities model.now.work []) gap.now }
+    requires ends { EndsInGap (length model.now.work.rows.box) (node_equalities model.now.work []) gap.now }
     ensures { IfOk result (IsRootPlace model.now.rows.now) }
 {
     match gap_move(alloc, model.rows, &model.work, &model.map, gap)? {

@@ -14,7 +14,7 @@ returns-then-is_none c =
     let heavy = fails_from_none c.span_of.result _ c.span_of.ensures c.if-is_none.ensures in
     let same : span c.items.result.now c.bounds.result.now ≡ span c.in_ok-form.form c.args.rows.now.box = ap₂ (λ (f : List ℤ) (b : List Bounds). span f b) c.items.ensures c.bounds.ensures.value in
     let above : 2 ^ 96 < span c.in_ok-form.form c.args.rows.now.box = omega (arith, heavy, same) in
-    heavy-form c.args.rows.now c.args.work.now c.args.gap.now c.in_ok-form.form c.requires.presolved c.requires.gap c.in_ok-form.ensures.kept c.in_ok-form.ensures.same above
+    heavy-form c.args.rows.now c.args.work.now c.args.gap.now c.in_ok-form.form c.requires.presolved c.requires.gap c.in_ok-form.ensures.kept c.in_ok-form.ensures.same c.requires.ends above
 
 pub returns-in-Ok : goal.returns-in-Ok
 returns-in-Ok c =

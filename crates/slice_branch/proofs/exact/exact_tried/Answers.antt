@@ -24,4 +24,4 @@ returns-in-Excused c =
     let model = c.args.model.now in
     let presolved : IsReduced task.rows.now model.work = subst (λ (r : WholeRows). IsReduced r model.work) c.requires.own model.presolved in
     let excused = subst (IsExactMove task.rows.now model.work c.args.frame.now task.path.now task.best) c.in-Excused.is c.in_ok-line.ensures in
-    excused_there task.rows.now task.path.now c.args.frame.now c.requires.node model.work presolved task.best c.in-Excused._excuse excused
+    excused_there task.rows.now task.path.now c.args.frame.now c.requires.node model.work presolved task.best c.in-Excused.excuse excused

@@ -1,7 +1,7 @@
-use Rattle.std.proofs.Common.{[], refl, subst}
+use Rattle.std.proofs.Common.{subst}
 use Rattle.std.specs.Prelude.{None}
 use Rattle.root_gaps.specs.GapMoves.{IsGapMove}
-use Rattle.slice_branch.specs.ExcusedPaths.{excused_here}
+use Rattle.slice_branch.proofs.PlainPlaceLaws.{plain_root}
 use Rattle.slice_branch.proofs.roots.gap_root.Goals as goal
 
 pub returns-in-Split : goal.returns-in-Split
@@ -10,4 +10,4 @@ returns-in-Split c = λ best. subst (IsGapMove c.args.model.now.rows.now best) c
 pub returns-in-Excused : goal.returns-in-Excused
 returns-in-Excused c =
     let rows = c.args.model.now.rows.now in
-    (refl, excused_here rows [] None c.in-Excused._excuse (subst (IsGapMove rows None) c.in-Excused.is (c.in_ok-cut.ensures None)))
+    plain_root rows c.in-Excused.excuse c.plain_place.result (subst (IsGapMove rows None) c.in-Excused.is (c.in_ok-cut.ensures None)) c.plain_place.ensures
