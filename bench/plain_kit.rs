@@ -224,6 +224,20 @@ impl<T> DerefMut for Box<T> {
     }
 }
 
+/// A value that several own.
+#[derive(Debug)]
+pub struct Rc<T>(std::rc::Rc<T>);
+
+impl<T> Rc<T> {
+    pub fn new(_alloc: Global, value: T) -> Result<Rc<T>, AllocFailed<T>> {
+        Ok(Rc(std::rc::Rc::new(value)))
+    }
+
+    pub fn clone(&self) -> Result<Rc<T>, AllocError> {
+        Ok(Rc(self.0.clone()))
+    }
+}
+
 #[macro_export]
 macro_rules! kit_vec {
     ($alloc:expr; $item:expr; $count:expr) => {

@@ -21,7 +21,7 @@ TOKEN = re.compile(r"""\s+|//[^\n]*|b?"(?:\\.|[^"\\])*"|b?'(?:\\[^']+|[^'\\])'|'
 LEFT_OUT = {"Model", "Display", "Error", "MadeWith"}
 
 # Paths of the kit, and where plain_kit.rs has its stand-ins.
-KIT_PATHS = {("std", "alloc"), ("std", "marker"), ("std", "error"), ("std", "default")}
+KIT_PATHS = {("std", "alloc"), ("std", "marker"), ("std", "error"), ("std", "default"), ("std", "rc")}
 
 OPEN, CLOSE = "([{", ")]}"
 
