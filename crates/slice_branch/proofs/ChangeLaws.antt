@@ -13,7 +13,7 @@ use Rattle.slice_branch.proofs.BrancherLaws.{kept_node, turned, turned_lower}
 
 module _ (rows : WholeRows) (path : List Slice) (best : Option ℤ) where
   -- an unchanged place
-  pub unchanged : (place : Place) → (λ (old : Place). Becomes rows old old path best) place
+  pub unchanged : (place : Place) → Becomes rows place place path best
   unchanged (Settled move) = refl
   unchanged (Framed node) = (refl, refl)
   unchanged (Plain node) = refl
