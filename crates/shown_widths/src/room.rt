@@ -42,23 +42,16 @@ pub(crate) struct Trial<'a> {
     pub(crate) points: &'a [WorkPoint],
 }
 
-/// The parts of a unit in which a width is counted, times a power of four that is at most 4^(dimension-1).
+/// The parts of a unit in which a width is counted, times 4^(dimension-1), or times 4^16 where the dimension is greater than 17.
 pub(crate) fn factor_in(dimension: usize) -> i128
     ensures { IsFactorIn dimension result }
 {
-    if dimension > 16 {
-        1 << 48
-    } else if dimension > 8 {
-        1 << 32
-    } else if dimension > 4 {
-        1 << 24
-    } else if dimension > 2 {
-        1 << 20
-    } else if dimension > 1 {
-        1 << 18
+    let steps = if dimension > 16 {
+        16
     } else {
-        1 << 16
-    }
+        dimension.saturating_sub(1)
+    };
+    WIDTH_PARTS << (2 * steps)
 }
 
 /// A width in parts of a unit, rounded up; none where it is negative or leaves 128 bits.
