@@ -2,7 +2,9 @@ pub mod CornerLaws
 pub mod CornerLines
 pub mod EndLaws
 pub mod FormLaws
+pub mod GapDivisors
 pub mod HaltLaws
 pub mod MoveLaws
 pub mod RootTotals
 pub mod TimesLaws
+pub mod WholeLines
