@@ -4,7 +4,10 @@ pub mod EndLaws
 pub mod FormLaws
 pub mod GapDivisors
 pub mod HaltLaws
+pub mod HeavyTimes
+pub mod LightTotals
 pub mod MoveLaws
+pub mod RootItems
 pub mod RootTotals
 pub mod TimesLaws
 pub mod WholeLines

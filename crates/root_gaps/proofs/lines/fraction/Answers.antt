@@ -1,3 +1,2 @@
-use Rattle.root_gaps.proofs.GapDivisors.{gap-lowest}
-use Rattle.root_gaps.proofs.WholeLines.{least-weight}
+use Rattle.root_gaps.proofs.HeavyTimes.{leaves-heavy}
 use Rattle.root_gaps.proofs.lines.fraction.Goals as goal
