@@ -1,5 +1,5 @@
 -- Where the equalities of a root so many times leave the range of fractions, the least whole line of these and of an end is heavy.
-use Rattle.std.proofs.Common.{◌≡◌, ◌⊎◌, ℕ, ◌+◌, ◌^◌, ◌<◌, ◌≤◌, nat_abs, false, ℤ, pos, ◌≤ℤ◌, ◌<ℤ◌, List, [], ◌∷◌, ◌++◌, length, refl, sym, subst, ◌∙◌, arith, All, ⊎_elim}
+use Rattle.std.proofs.Common.{◌≡◌, ◌⊎◌, ℕ, ◌+◌, ◌^◌, ◌<◌, ◌≤◌, nat_abs, false, ℤ, pos, ◌≤ℤ◌, ◌<ℤ◌, List, [], ◌∷◌, ◌++◌, length, get_or, refl, subst, arith, All, ⊎_elim}
 use Rattle.std.specs.Int.{◌∣◌}
 use Rattle.std.specs.Prelude.{Option, None}
 use Rattle.std.proofs.lemmas.List.Elements.{All-nil, All-cons, All-append, All-head, All-weaker}
@@ -64,7 +64,7 @@ module _ (rows : WholeRows) (work : ReducedRows) (limits : IsWithinLimits rows) 
   all-above = All-append IsAbove lifted (end_times rows divisor ∷ []) lifted-above (All-cons IsAbove (end_times rows divisor) [] (whole-above divisor positive) (All-nil IsAbove))
 
   lifted-counted : All IsCounted lifted
-  lifted-counted k d lt = counted-of _ (lifted-integer rows work limits reduced times k d lt) (lifted-above k d lt)
+  lifted-counted k d lt = counted-of (get_or lifted k d) (lifted-integer rows work limits reduced times k d lt) (lifted-above k d lt)
 
   all-counted : All IsCounted all
   all-counted = All-append IsCounted lifted (end_times rows divisor ∷ []) lifted-counted (All-cons IsCounted (end_times rows divisor) [] (counted-of (end_times rows divisor) (divisor, refl) (whole-above divisor positive)) (All-nil IsCounted))
