@@ -1,10 +1,9 @@
 -- Why the nodes of a path are split by single columns.
-use Rattle.std.specs.Prelude.{◌≡◌, ◌⊎◌, ◌<◌, ◌^◌, ℤ, pos, ◌<ℤ◌, List, [], ◌∷◌, ◌++◌, length, get_or, All, Option, Some, None, FitsSigned}
+use Rattle.std.specs.Prelude.{◌≡◌, ◌⊎◌, ◌<◌, ◌^◌, ℤ, pos, ◌<ℤ◌, List, [], ◌∷◌, ◌++◌, length, get_or, Option, Some, None, FitsSigned}
 use Rattle.exact_math.specs.Rational.{ℚ, whole}
 use Rattle.exact_math.specs.Ring.{integers}
 use Rattle.exact_vectors.specs.Vectors.{negate}
 use Rattle.whole_rows.specs.WholeRows.{WholeRows, span}
-use Rattle.frac128.specs.Range.{IsNarrow}
 use Rattle.farkas_rows.specs.declared.fracs.FracUse.{FracUse}
 use Rattle.farkas_rows.specs.declared.line.Line.{Line}
 use Rattle.farkas_rows.specs.declared.path.Slice.{Slice}
@@ -26,7 +25,7 @@ use Rattle.reformulate.specs.declared.equality.Equality.{Equality}
 use Rattle.reformulate.specs.declared.gap.Gap.{Gap}
 use Rattle.reformulate.specs.declared.outcome.FrameExcuse.{FrameExcuse}
 use Rattle.reformulate.specs.declared.outcome.FrameExcuse.TheVariants as frame_excuses
-use Rattle.presolve_map.specs.LiftedLines.{IsLiftedLine, LineStays}
+use Rattle.presolve_map.specs.LiftedLines.{IsLiftedLine}
 use Rattle.presolve_map.specs.ReducedRows.{ReducedRows, IsReduced}
 use Rattle.row_lifting.specs.Lifting.{none}
 use Rattle.farkas_lift.specs.NodeEqualities.{node_equalities, work_form, work_slice}
@@ -93,11 +92,6 @@ IsGapEnd form gap end times =
     ((end ≡ below form gap.lo) × (times ≡ negate integers gap.times))
     ⊎ ((end ≡ above form gap.lo) × (times ≡ gap.times))
 
--- The equalities of the root so many times leave the range of fractions as they are carried back to the model's inequalities: one
--- of the times, or a product or a sum on the way to what they come to in a removed column.
-abbrev pub TimesLeave : WholeRows → ReducedRows → List ℤ → Type 0
-TimesLeave rows work times = ¬ (All IsNarrow times) ⊎ ¬ (LineStays rows none (root_uses rows work (wholes times)))
-
 -- The least whole line of the equalities of the root so many times and of an end of a form as often as the divisor says weighs above
 -- 2 to the power 126.
 pub record IsHeavyWith (rows : WholeRows) (work : ReducedRows) (divisor : ℤ) (times : List ℚ) (end : Option Inequality) : Type 0 where
@@ -105,8 +99,7 @@ pub record IsHeavyWith (rows : WholeRows) (work : ReducedRows) (divisor : ℤ) (
   pub lifted : IsLiftedLine rows none (root_uses rows work times) items
   pub heavy : (line : Line) → IsLeastLine None (items ++ end_times rows divisor ∷ []) line → pos (2 ^ 126) <ℤ line_weight rows [] end line
 
--- For one of the ends, the gap's times leave the range as they are carried back, or the least whole line of these and of the divisor
--- weighs above 2 to the power 126.
+-- For one of the ends, the least whole line of the gap's times and of the divisor weighs above 2 to the power 126.
 pub record IsHeavyGapLine (rows : WholeRows) (path : List Slice) : Type 0 where
   pub root : path ≡ []
   pub work : ReducedRows
@@ -119,7 +112,7 @@ pub record IsHeavyGapLine (rows : WholeRows) (path : List Slice) : Type 0 where
   pub end : Inequality
   pub times : List ℤ
   pub is_end : IsGapEnd form gap end times
-  pub too_large : TimesLeave rows work times ⊎ IsHeavyWith rows work gap.divisor (wholes times) (Some end)
+  pub heavy : IsHeavyWith rows work gap.divisor (wholes times) (Some end)
 
 -- ---- all of them
 

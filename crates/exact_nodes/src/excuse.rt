@@ -10,8 +10,7 @@ pub struct LiftBasis {
     pub pivots: Pivots,
 }
 
-/// The pivots whose multipliers give a line that is too heavy; none where the line is that of a gap, whose times may also leave the
-/// range on the way to it.
+/// The pivots whose multipliers give a line that is too heavy; none where the line is that of a gap.
 #[derive(Drop)]
 pub struct LineBasis {
     pub pivots: Pivots,

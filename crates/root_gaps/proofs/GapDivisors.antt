@@ -1,12 +1,14 @@
 -- No number but 1 divides the times of a gap and its divisor.
-use Rattle.std.proofs.Common.{◌≡◌, ◌⊎◌, inl, inr, ℕ, suc, ◌+◌, ◌-◌, ◌<◌, ◌≤◌, nat_abs, ℤ, pos, negsuc, neg_ℤ, ◌+ℤ◌, List, length, get_or, set, sym, ap, subst, ◌∙◌, arith, All, ⊎_elim}
+use Rattle.std.proofs.Common.{◌≡◌, ℕ, suc, ◌+◌, ◌-◌, ◌<◌, nat_abs, ℤ, pos, negsuc, neg_ℤ, ◌+ℤ◌, List, [], ◌∷◌, length, get_or, sym, ap, subst, ◌∙◌, arith, All, ⊎_elim}
 use Rattle.std.specs.Int.{◌∣◌}
 use Rattle.std.proofs.Math.Nat.{dvd-add, dvd-sub, eq-one_of_dvd-one}
-use Rattle.std.proofs.lemmas.Bool.{cases_eq, cases_lt}
+use Rattle.std.proofs.lemmas.Bool.{cases_eq}
 use Rattle.std.proofs.lemmas.List.{get_or-set_other, get_or-set_same, length-set}
-use Rattle.std.proofs.lemmas.List.Elements.{All-from_get_or, All-get_or}
+use Rattle.std.proofs.lemmas.List.Elements.{All-cons, All-from_get_or, All-get_or, All-head, All-tail}
 use Rattle.exact_math.specs.GcdLaws.{nat_abs-neg_ℤ}
 use Rattle.exact_math.specs.IntegerRing.{linear}
+use Rattle.exact_math.specs.Ring.{integers}
+use Rattle.exact_vectors.specs.Vectors.{negate}
 use Rattle.unimodular_pair.specs.Gathering.{common_divisor}
 use Rattle.thin_forms.proofs.PartSteps.{divisor_greatest}
 use Rattle.reformulate.specs.Gaps.{raised, IsGap, IsRaised}
@@ -71,3 +73,10 @@ gap-lowest n equalities gap shown d each whole_divisor =
     (λ some. divides-before d some.0 gap.divisor before.times (subst (DividesEach d) some.2 each) whole_divisor)
     before.added))
     shown.lowest
+
+-- what divides minus the times divides them
+pub divides-turned : (d : ℕ) (times : List ℤ) → DividesEach d (negate integers times) → DividesEach d times
+divides-turned d [] each = each
+divides-turned d (a ∷ times) each =
+    All-cons (λ time. d ∣ nat_abs time) a times (subst (λ (n : ℕ). d ∣ n) (nat_abs-neg_ℤ a) (All-head (λ time. d ∣ nat_abs time) (neg_ℤ a) (negate integers times) each))
+    (divides-turned d times (All-tail (λ time. d ∣ nat_abs time) (neg_ℤ a) (negate integers times) each))

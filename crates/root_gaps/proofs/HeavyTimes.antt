@@ -1,14 +1,15 @@
 -- Where the equalities of a root so many times leave the range of fractions, the least whole line of these and of an end is heavy.
-use Rattle.std.proofs.Common.{◌≡◌, ◌⊎◌, ℕ, ◌+◌, ◌^◌, ◌<◌, ◌≤◌, nat_abs, false, ℤ, pos, ◌≤ℤ◌, ◌<ℤ◌, List, [], ◌∷◌, ◌++◌, length, get_or, refl, subst, arith, All, ⊎_elim}
+use Rattle.std.proofs.Common.{◌≡◌, ◌⊎◌, ℕ, ◌^◌, ◌≤◌, nat_abs, false, ℤ, pos, ◌≤ℤ◌, ◌<ℤ◌, List, [], ◌∷◌, ◌++◌, length, get_or, refl, subst, ◌∙◌, arith, All, ⊎_elim}
 use Rattle.std.specs.Int.{◌∣◌}
-use Rattle.std.specs.Prelude.{Option, None}
+use Rattle.std.specs.Prelude.{Option}
 use Rattle.std.proofs.lemmas.List.Elements.{All-nil, All-cons, All-append, All-head, All-weaker}
 use Rattle.std.proofs.lemmas.Nat.Gcd.{dvd-zero}
 use Rattle.exact_math.specs.IntegerOrder.{le_or_lt}
 use Rattle.exact_math.specs.IntegerRing.{linear}
-use Rattle.exact_math.specs.Rational.{ℚ, whole, ◌<ℚ◌}
+use Rattle.exact_math.specs.Rational.{whole, ◌<ℚ◌}
+use Rattle.exact_math.specs.Ring.{integers}
 use Rattle.exact_math.specs.RationalRing.{rationals}
-use Rattle.exact_vectors.specs.Vectors.{zeros}
+use Rattle.exact_vectors.specs.Vectors.{negate, zeros}
 use Rattle.frac128.specs.Range.{IsNarrow}
 use Rattle.whole_rows.specs.WholeRows.{WholeRows, IsWithinLimits}
 use Rattle.lp_dict.specs.Systems.{wholes}
@@ -16,9 +17,11 @@ use Rattle.row_lifting.specs.Lifting.{none}
 use Rattle.farkas_rows.specs.declared.fracs.FracUse.{FracUse}
 use Rattle.farkas_rows.specs.declared.line.Line.{Line}
 use Rattle.farkas_rows.specs.Inequalities.{Inequality}
-use Rattle.farkas_rows.specs.LeastLine.{IsLeastLine}
+use Rattle.farkas_rows.specs.NodeLaws.{length-negate}
 use Rattle.farkas_rows.specs.Refutes.{line_weight}
 use Rattle.farkas_rows.proofs.LeastLemmas.{whole_num}
+use Rattle.reformulate.specs.Gaps.{IsGap}
+use Rattle.reformulate.specs.declared.gap.Gap.{Gap}
 use Rattle.presolve_map.specs.LiftedLines.{balances, LineStays}
 use Rattle.presolve_map.specs.ReducedRows.{ReducedRows, IsReduced}
 use Rattle.presolve_map.proofs.NumberedLaws.{balances-positive}
@@ -28,11 +31,11 @@ use Rattle.farkas_lift.specs.NodeSides.{node_sides}
 use Rattle.farkas_lift.proofs.NodePlaces.{times-positive}
 use Rattle.farkas_lift.proofs.RootLaws.{zeros_nonneg}
 use Rattle.exact_nodes.specs.PathExcuses.{end_times, IsHeavyWith}
-use Rattle.root_gaps.proofs.GapDivisors.{DividesEach}
+use Rattle.root_gaps.proofs.GapDivisors.{divides-turned, gap-lowest, DividesEach}
 use Rattle.root_gaps.proofs.LightTotals.{light-stays, sizes-small}
 use Rattle.root_gaps.proofs.RootItems.{all-back, all-front, lifted-integer, lifted_root, numbers-back, root-lifted}
 use Rattle.root_gaps.proofs.TimesLaws.{whole-above}
-use Rattle.root_gaps.proofs.WholeLines.{counted-of, items_weight, items_weight-append, least-weight, size, AreLowest, IsCounted, IsInteger}
+use Rattle.root_gaps.proofs.WholeLines.{counted-of, items_weight, items_weight-append, least-weight, size, AreLowest, IsCounted}
 
 -- one of the times is not narrow, or a product or a sum on the way to what they come to in a removed column leaves the range
 abbrev pub TimesLeave : WholeRows → ReducedRows → List ℤ → Type 0
@@ -106,3 +109,15 @@ module _ (rows : WholeRows) (work : ReducedRows) (limits : IsWithinLimits rows) 
         where
           little : (w : ℤ) (n : ℕ) → w ≡ pos n → w ≤ℤ pos (2 ^ 126) → n ≤ 2 ^ 126
           little w n e h = omega (linear, e, h)
+
+-- ---- a gap's times
+
+module _ (rows : WholeRows) (work : ReducedRows) (gap : Gap) (limits : IsWithinLimits rows) (reduced : IsReduced rows work) (shown : IsGap (length work.rows.box) (node_equalities work []) gap) (end : Option Inequality) where
+  pub gap-heavy : TimesLeave rows work gap.times → IsHeavyWith rows work gap.divisor (wholes gap.times) end
+  gap-heavy = leaves-heavy rows work limits reduced gap.divisor gap.times end shown.sum.as_many shown.positive (gap-lowest (length work.rows.box) (node_equalities work []) gap shown)
+
+  -- and minus them
+  pub turned-heavy : TimesLeave rows work (negate integers gap.times) → IsHeavyWith rows work gap.divisor (wholes (negate integers gap.times)) end
+  turned-heavy =
+      leaves-heavy rows work limits reduced gap.divisor (negate integers gap.times) end (length-negate gap.times ∙ shown.sum.as_many) shown.positive
+      (λ d each whole_divisor. gap-lowest (length work.rows.box) (node_equalities work []) gap shown d (divides-turned d gap.times each) whole_divisor)

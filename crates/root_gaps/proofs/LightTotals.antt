@@ -1,6 +1,6 @@
 -- Where items that are taken whole numbers of times are light, no product and no sum on the way to what they come to leaves the range.
-use Rattle.std.proofs.Common.{◌≡◌, ℕ, zero, suc, ◌+◌, ◌*◌, ◌^◌, ◌/◌, ◌<◌, ◌≤◌, nat_abs, ℤ, pos, ◌*ℤ◌, ◌+ℤ◌, List, [], ◌∷◌, ◌++◌, get_or, refl, sym, ap, ap₂, subst, subst₂, ◌∙◌, arith, append_assoc, All}
-use Rattle.std.specs.Prelude.{Option, Some, None, flat_map, unwrap_or, length}
+use Rattle.std.proofs.Common.{◌≡◌, ℕ, zero, suc, ◌+◌, ◌*◌, ◌^◌, ◌/◌, ◌<◌, ◌≤◌, nat_abs, ℤ, pos, ◌*ℤ◌, ◌+ℤ◌, List, [], ◌∷◌, ◌++◌, get_or, sym, ap, ap₂, subst, subst₂, ◌∙◌, arith, append_assoc, All}
+use Rattle.std.specs.Prelude.{Option, None, flat_map, unwrap_or, length}
 use Rattle.std.proofs.Math.Nat.{le-mul_of_pos_right}
 use Rattle.std.proofs.lemmas.List.Elements.{All-nil, All-cons, All-head, All-tail, All-weaker}
 use Rattle.exact_math.specs.Gcd.{gcd}
@@ -100,10 +100,11 @@ module _ (rows : WholeRows) (end : Option Inequality) (column : ℕ) where
       let p : ℤ = pos (size item) *ℤ f in
       let product : item.times *ℚ factor_in rows [] None column item.index ≡ whole (pos (size item) *ℤ f) = ap (λ (t : ℚ). t *ℚ whole f) (All-head IsCounted item items counted) ∙ sym (whole_mul (pos (size item)) f) in
       let small : nat_abs (pos (size item) *ℤ f) ≤ size item * w = abs_mul_le (pos (size item)) f (size item) w (omega arith) (factor-weight rows end column item.index) in
-      let all : nat_abs z + (size item * w + items_weight rows end items) ≤ 2 ^ 126 = light in
-      ((λ some. (subst InRange (sym product) (in-range p (within (nat_abs z) (nat_abs p) (size item * w) (items_weight rows end items) small all)), subst₂ SumInRange (sym is) (sym product) (sum-in_range z p (both (nat_abs z) (nat_abs p) (size item * w) (items_weight rows end items) small all)))),
-      light-sum items (sum +ℚ item.times *ℚ factor_in rows [] None column item.index) (z +ℤ p) (ap₂ (λ (a b : ℚ). a +ℚ b) is product ∙ sym (whole_add z p)) (All-tail IsCounted item items counted)
-      (next (nat_abs z) (nat_abs p) (nat_abs (z +ℤ p)) (size item * w) (items_weight rows end items) small (abs_add_le z p) all))
+      let all : nat_abs z + (size item * w + items_weight rows end items) ≤ 2 ^ 126 = light in (
+        (λ some. (subst InRange (sym product) (in-range p (within (nat_abs z) (nat_abs p) (size item * w) (items_weight rows end items) small all)), subst₂ SumInRange (sym is) (sym product) (sum-in_range z p (both (nat_abs z) (nat_abs p) (size item * w) (items_weight rows end items) small all)))),
+        light-sum items (sum +ℚ item.times *ℚ factor_in rows [] None column item.index) (z +ℤ p) (ap₂ (λ (a b : ℚ). a +ℚ b) is product ∙ sym (whole_add z p)) (All-tail IsCounted item items counted)
+            (next (nat_abs z) (nat_abs p) (nat_abs (z +ℤ p)) (size item * w) (items_weight rows end items) small (abs_add_le z p) all),
+      )
     where
       within : (a b c d : ℕ) → b ≤ c → a + (c + d) ≤ 2 ^ 126 → b ≤ 2 ^ 126
       within a b c d h k = omega (arith, h, k)

@@ -1,5 +1,5 @@
 -- The items of the equalities of a root, so many times, and of the bounds of removed columns.
-use Rattle.std.proofs.Common.{◌≡◌, ℕ, zero, suc, ◌+◌, ◌*◌, ◌<◌, ◌≤◌, nat_abs, true, false, ℤ, pos, List, [], ◌∷◌, ◌++◌, length, map, refl, sym, ap, subst, ◌∙◌, arith, append_assoc, All}
+use Rattle.std.proofs.Common.{◌≡◌, ℕ, zero, suc, ◌+◌, ◌*◌, ◌<◌, ◌≤◌, nat_abs, false, ℤ, pos, List, [], ◌∷◌, ◌++◌, length, refl, sym, ap, subst, ◌∙◌, arith, append_assoc, All}
 use Rattle.std.specs.Prelude.{Option, Some, None, int_lt, if◌then◌else◌, option_to_list, ⊤}
 use Rattle.std.specs.Ordering.{int_eq}
 use Rattle.std.specs.List.Sorted.{IsStrictlyIncreasing}
@@ -9,7 +9,7 @@ use Rattle.std.proofs.lemmas.List.{append-nil, length-map, map-append}
 use Rattle.std.proofs.lemmas.List.Elements.{All-nil, All-cons, All-append, All-head, All-map, All-tail, All-weaker}
 use Rattle.std.proofs.lemmas.List.Sorted.{IsPermutation-refl}
 use Rattle.exact_math.specs.GcdLaws.{nat_abs-neg_ℤ}
-use Rattle.exact_math.specs.Rational.{ℚ, whole, neg_ℚ, ◌*ℚ◌}
+use Rattle.exact_math.specs.Rational.{ℚ, whole, neg_ℚ}
 use Rattle.exact_math.specs.RationalRing.{rationals}
 use Rattle.exact_math.specs.RingLaws as Laws
 use Rattle.exact_vectors.specs.Vectors.{zeros}
@@ -147,9 +147,10 @@ rises-more : (low high : ℕ) (items : List FracUse) (item : FracUse) → low �
 rises-more low high items item le lt h =
     let n : ℕ = item.index in
     let before : RisesBelow item.index items = rises-weaker low item.index items le h in
-    subst (λ (l : List ℕ). IsStrictlyIncreasing l × All (λ (m : ℕ). m < high) l) (sym (map-append (λ (other : FracUse). other.index) items (item ∷ [])))
-    (rising-last (numbers_of items) item.index before.0 before.1,
-    All-append (λ (m : ℕ). m < high) (numbers_of items) (item.index ∷ []) (All-weaker (λ (m : ℕ). m < item.index) (λ (m : ℕ). m < high) (λ m less. omega (arith, less, lt)) (numbers_of items) before.1) (All-cons (λ (m : ℕ). m < high) item.index [] lt (All-nil (λ (m : ℕ). m < high))))
+    subst (λ (l : List ℕ). IsStrictlyIncreasing l × All (λ (m : ℕ). m < high) l) (sym (map-append (λ (other : FracUse). other.index) items (item ∷ []))) (
+      rising-last (numbers_of items) item.index before.0 before.1,
+      All-append (λ (m : ℕ). m < high) (numbers_of items) (item.index ∷ []) (All-weaker (λ (m : ℕ). m < item.index) (λ (m : ℕ). m < high) (λ m less. omega (arith, less, lt)) (numbers_of items) before.1) (All-cons (λ (m : ℕ). m < high) item.index [] lt (All-nil (λ (m : ℕ). m < high))),
+    )
 
 balances-rise : (rows : WholeRows) (items : List FracUse) (m : ℕ) → RisesBelow (upper_bound rows 0) items → RisesBelow (upper_bound rows m) (items ++ balances rows none items m)
 balances-rise rows items zero h = subst (RisesBelow (upper_bound rows 0)) (sym (append-nil items)) h
@@ -207,15 +208,13 @@ module _ (rows : WholeRows) (work : ReducedRows) (limits : IsWithinLimits rows) 
       record {
         same = IsPermutation-refl lifted_root;
         rising =
-            (balances-rise rows items (length rows.box)
-            (numbers-rise rows work limits reduced 0 (zeros rationals (length (node_sides work false))) (wholes numbers),
-            All-map (λ (n : ℕ). n < upper_bound rows 0) (λ (item : FracUse). item.index) items (All-weaker IsRootItem (λ (item : FracUse). item.index < upper_bound rows 0) (λ item h. omega (arith, h.1)) items root-items))).0;
+            (balances-rise rows items (length rows.box) (
+              numbers-rise rows work limits reduced 0 (zeros rationals (length (node_sides work false))) (wholes numbers),
+              All-map (λ (n : ℕ). n < upper_bound rows 0) (λ (item : FracUse). item.index) items (All-weaker IsRootItem (λ (item : FracUse). item.index < upper_bound rows 0) (λ item h. omega (arith, h.1)) items root-items),
+            )).0;
       }
 
   -- ---- the places and the equalities
-
-  none_of : {A : Type 0} → A → ℚ
-  none_of a = none
 
   agrees : Agrees rows work [] (λ number. none) (λ side. none) (λ equality. none)
   agrees = record {

@@ -1,5 +1,5 @@
 -- The least whole line of items that are taken whole numbers of times, which no number but 1 divides, and its weight.
-use Rattle.std.proofs.Common.{◌≡◌, ℕ, zero, suc, ◌+◌, ◌*◌, ◌≤◌, nat_abs, ℤ, pos, ◌*ℤ◌, ◌+ℤ◌, ◌<ℤ◌, List, [], ◌∷◌, ◌++◌, map, refl, sym, ap, ap₂, subst, ◌∙◌, arith, All}
+use Rattle.std.proofs.Common.{◌≡◌, ℕ, ◌+◌, ◌*◌, nat_abs, ℤ, pos, ◌*ℤ◌, ◌+ℤ◌, ◌<ℤ◌, List, [], ◌∷◌, ◌++◌, map, refl, sym, ap, ap₂, ◌∙◌, arith, All}
 use Rattle.std.specs.Int.{◌∣◌}
 use Rattle.std.specs.List.{AllZip}
 use Rattle.std.specs.Prelude.{Option, None}
@@ -11,7 +11,6 @@ use Rattle.exact_math.specs.Rational.{ℚ, whole, neg_ℚ, ◌+ℚ◌, ◌*ℚ�
 use Rattle.exact_math.specs.RationalOrder.{num_pos}
 use Rattle.exact_math.specs.RationalRing.{rationals, whole_add, whole_mul}
 use Rattle.exact_math.specs.RingLaws as Laws
-use Rattle.exact_vectors.specs.Vectors.{dot}
 use Rattle.whole_rows.specs.WholeRows.{WholeRows}
 use Rattle.farkas_rows.specs.declared.fracs.FracUse.{FracUse}
 use Rattle.farkas_rows.specs.declared.line.Line.{Line}
@@ -21,7 +20,7 @@ use Rattle.farkas_rows.specs.LeastLine.{IsLeastLine}
 use Rattle.farkas_rows.specs.Refutes.{inequality_weight, line_weight}
 use Rattle.farkas_rows.proofs.LeastLemmas.{whole_num}
 use Rattle.farkas_rows.proofs.LeastLineLemmas.{IsLeastLine-same_weight}
-use Rattle.presolve_map.specs.LiftedLines.{named, numbers_of}
+use Rattle.presolve_map.specs.LiftedLines.{named}
 use Rattle.presolve_map.proofs.LineLaws.{whole_neg}
 use Rattle.root_gaps.proofs.TimesLaws.{whole-above}
 
