@@ -13,7 +13,7 @@ use Rattle.exact_vectors.specs.MatrixLaws as Matrices
 use Rattle.frac128.specs.Range.{IsNarrow}
 use Rattle.exact_math.specs.GcdLaws.{nat_abs-neg_ℤ}
 use Rattle.whole_rows.specs.declared.bounds.Bounds.{Bounds}
-use Rattle.whole_rows.specs.WholeRows.{WholeRows, reach, span}
+use Rattle.whole_rows.specs.WholeRows.{WholeRows, reach, span, IsWithinLimits}
 use Rattle.lp_dict.specs.Systems.{wholes}
 use Rattle.row_lifting.specs.Lifting.{none}
 use Rattle.farkas_rows.specs.Inequalities.{above, below}
@@ -33,6 +33,7 @@ use Rattle.node_lines.proofs.Refuting.{combination-negate}
 use Rattle.exact_nodes.specs.PathExcuses.{IsHeavyGapLine, IsHeavyWith, IsRootGap}
 use Rattle.exact_nodes.proofs.NodeFacts.{over_kept}
 use Rattle.root_gaps.specs.GapEnds.{HaltsGap, IsFormOfGap, IsPastBox, IsRefutedBy}
+use Rattle.root_gaps.proofs.HeavyTimes.{gap-heavy, turned-heavy}
 
 -- ---- the first value
 
@@ -147,21 +148,14 @@ module _ (rows : WholeRows) (work : ReducedRows) (gap : Gap) (form : List ℤ) (
     end = below form gap.lo;
     times = negate integers gap.times;
     is_end = inl (refl, refl);
-    too_large = inr (subst (λ (l : List ℚ). IsHeavyWith rows work gap.divisor l (Some (below form gap.lo))) (negate-wholes gap.times) heavy);
+    heavy = subst (λ (l : List ℚ). IsHeavyWith rows work gap.divisor l (Some (below form gap.lo))) (negate-wholes gap.times) heavy;
   }
 
-  pub lower-leaves : (LineStays rows none (root_uses rows work (negate rationals (wholes gap.times))) → ⊥) → IsHeavyGapLine rows []
-  lower-leaves leaves = record {
-    root = refl;
-    work = work;
-    gap = gap;
-    form = form;
-    of_root = of_root;
-    end = below form gap.lo;
-    times = negate integers gap.times;
-    is_end = inl (refl, refl);
-    too_large = inl (inr (λ stays. leaves (subst (λ (l : List ℚ). LineStays rows none (root_uses rows work l)) (sym (negate-wholes gap.times)) stays)));
-  }
+  pub lower-leaves : IsWithinLimits rows → (LineStays rows none (root_uses rows work (negate rationals (wholes gap.times))) → ⊥) → IsHeavyGapLine rows []
+  lower-leaves limits leaves =
+      lower-heavy
+      (subst (λ (l : List ℚ). IsHeavyWith rows work gap.divisor l (Some (below form gap.lo))) (sym (negate-wholes gap.times))
+      (turned-heavy rows work gap limits is.presolved is.shown (Some (below form gap.lo)) (inr (λ stays. leaves (subst (λ (l : List ℚ). LineStays rows none (root_uses rows work l)) (sym (negate-wholes gap.times)) stays)))))
 
   pub upper-heavy : IsHeavyWith rows work gap.divisor (wholes gap.times) (Some (above form gap.lo)) → IsHeavyGapLine rows []
   upper-heavy heavy = record {
@@ -173,34 +167,14 @@ module _ (rows : WholeRows) (work : ReducedRows) (gap : Gap) (form : List ℤ) (
     end = above form gap.lo;
     times = gap.times;
     is_end = inr (refl, refl);
-    too_large = inr heavy;
+    heavy = heavy;
   }
 
-  pub upper-leaves : (LineStays rows none (root_uses rows work (wholes gap.times)) → ⊥) → IsHeavyGapLine rows []
-  upper-leaves leaves = record {
-    root = refl;
-    work = work;
-    gap = gap;
-    form = form;
-    of_root = of_root;
-    end = above form gap.lo;
-    times = gap.times;
-    is_end = inr (refl, refl);
-    too_large = inl (inr leaves);
-  }
+  pub upper-leaves : IsWithinLimits rows → (LineStays rows none (root_uses rows work (wholes gap.times)) → ⊥) → IsHeavyGapLine rows []
+  upper-leaves limits leaves = upper-heavy (gap-heavy rows work gap limits is.presolved is.shown (Some (above form gap.lo)) (inr leaves))
 
-  pub times-leave : (All IsNarrow gap.times → ⊥) → IsHeavyGapLine rows []
-  times-leave leave = record {
-    root = refl;
-    work = work;
-    gap = gap;
-    form = form;
-    of_root = of_root;
-    end = above form gap.lo;
-    times = gap.times;
-    is_end = inr (refl, refl);
-    too_large = inl (inl leave);
-  }
+  pub times-leave : IsWithinLimits rows → (All IsNarrow gap.times → ⊥) → IsHeavyGapLine rows []
+  times-leave limits leave = upper-heavy (gap-heavy rows work gap limits is.presolved is.shown (Some (above form gap.lo)) (inl leave))
 
 -- ---- errors
 

@@ -2,7 +2,12 @@ pub mod CornerLaws
 pub mod CornerLines
 pub mod EndLaws
 pub mod FormLaws
+pub mod GapDivisors
 pub mod HaltLaws
+pub mod HeavyTimes
+pub mod LightTotals
 pub mod MoveLaws
+pub mod RootItems
 pub mod RootTotals
 pub mod TimesLaws
+pub mod WholeLines

@@ -40,6 +40,7 @@ fn lower_line(
     ensures line { IfOk result (ClosesEnd rows.now (Some (below form.now gap.now.lo))) }
     ensures halt { IfErr result (HaltsGap rows.now) }
 {
+    let _columns = rows.columns();
     let end = End::Below { form, lo: gap.lo };
     if gap.lo == -FARTHEST {
         return box_line(alloc, rows, form.items(), false, &end);
@@ -62,6 +63,7 @@ fn upper_line(
     ensures line { IfOk result (ClosesEnd rows.now (Some (above form.now gap.now.lo))) }
     ensures halt { IfErr result (HaltsGap rows.now) }
 {
+    let _columns = rows.columns();
     let end = End::Above { form, from: gap.lo };
     if gap.lo == FARTHEST {
         return box_line(alloc, rows, form.items(), true, &end);
@@ -82,6 +84,7 @@ pub(crate) fn end_lines(
     ensures above { IfOk result (λ lines. ClosesEnd rows.now (Some (above form.now gap.now.lo)) lines.above) }
     ensures halt { IfErr result (HaltsGap rows.now) }
 {
+    let _columns = rows.columns();
     let times = fractions_of(alloc, gap.times.items())?;
     let below = lower_line(alloc, rows, work, gap, form, &times)?;
     let above = upper_line(alloc, rows, work, gap, form, &times)?;

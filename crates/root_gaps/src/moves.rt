@@ -40,8 +40,7 @@ fn no_lines(alloc: Global, halt: LineHalt) -> Result<GapMove, NoMemory>
 /// The split of a root along the form of the gap in which legal framing of its equalities ends, which has no whole value there. The map is that of presolving,
 /// which did not close the root.
 ///
-/// `Excused` comes only where the form weighs above 2 to the power 96, or a line of the gap's times above 2 to the power 126, or
-/// where these leave the range of `Frac` as they are carried back to the model's inequalities.
+/// `Excused` comes only where the form weighs above 2 to the power 96, or a line of the gap's times above 2 to the power 126.
 pub fn gap_move(
     alloc: Global,
     rows: &DenseRows,

@@ -34,5 +34,5 @@ returns-clause-halt c =
     let wide = rw times at c.times_line.ensures.wide in
     let heavy = simp to_z-of_z at (rw times at c.times_line.ensures.heavy) in
     halts-gap c.args.rows.now c.times_line.result
-    (λ e. upper-leaves c.args.rows.now c.args.work.now c.args.gap.now c.args.form.now c.requires.gap (wide e))
+    (λ e. upper-leaves c.args.rows.now c.args.work.now c.args.gap.now c.args.form.now c.requires.gap c.columns-columns.ensures.limits (wide e))
     (λ e. upper-heavy c.args.rows.now c.args.work.now c.args.gap.now c.args.form.now c.requires.gap (heavy e))
