@@ -17,9 +17,10 @@ use Rattle.slice_branch.specs.declared.place.Node.{Node}
 use Rattle.slice_branch.specs.declared.place.Place.{Place}
 use Rattle.slice_branch.specs.declared.place.PlainNode.{PlainNode}
 use Rattle.slice_branch.specs.declared.place.Place.TheVariants.{Settled, Framed, Plain}
-use Rattle.exact_nodes.specs.PathExcuses.{IsExcusedAbove}
+use Rattle.exact_nodes.specs.PathExcuses.{IsExcusedAbove, IsExcusedIn}
+use Rattle.exact_nodes.specs.PathExcuses.IsExcused.{framed}
 use Rattle.exact_nodes.specs.declared.excuse.Excuse.{Excuse}
-use Rattle.slice_branch.specs.ExcusedPaths.{excused_below, excused_slice}
+use Rattle.slice_branch.specs.ExcusedPaths.{excused_below, excused_here, excused_slice}
 use Rattle.slice_branch.specs.PlainPlaces.{IsPlainPlace}
 use Rattle.slice_branch.specs.Framed.{IsAllowed, IsMarked}
 use Rattle.slice_branch.specs.Places.{height_of, is_plain_place, IsFramedPlace, IsPathWithin, IsPlainFrom, IsSlicePlace, StandsFor}
@@ -59,6 +60,21 @@ turned rows path node here = turns_plain rows path here.within (let s = here.sho
 pub turned_lower : (rows : WholeRows) (path : List Slice) (node : Node) → IsFramedPlace rows node path → (length path + length rows.box) - length path ≤ 2 * length rows.box - length path
 turned_lower rows path node here = let s = here.short in omega (arith, s)
 
+-- the excuse of such a node stands for its path, and so does the place that keeps it
+pub excused_node : (rows : WholeRows) (path : List Slice) (best : Option ℤ) (node : Node) (excuse : Excuse) → StandsFor rows (Framed node) path best → IsExcusedIn rows path best node.frame excuse → IsExcusedAbove rows path best excuse
+excused_node rows path best node excuse here excused = excused_here rows path best excuse here.0 (framed node.frame excused)
+
+pub excused_place : (rows : WholeRows) (path : List Slice) (best : Option ℤ) (node : Node) (excuse : Excuse) (depth : ℕ) (place : Place) → StandsFor rows (Framed node) path best → IsExcusedIn rows path best node.frame excuse → depth ≡ length path → IsPlainPlace excuse depth place → StandsFor rows place path best
+excused_place rows path best node excuse depth (Settled move) here excused deep is = absurd is
+excused_place rows path best node excuse depth (Framed other) here excused deep is = absurd is
+excused_place rows path best node excuse depth (Plain plain) here excused deep is = (
+  here.0,
+  (
+    subst (λ d. IsPlainFrom rows d path) (sym (is.1 ∙ deep)) (turned rows path node here.1),
+    subst (IsExcusedAbove rows path best) (sym is.0) (excused_node rows path best node excuse here excused),
+  ),
+)
+
 -- the mark of a split that is chosen at a place
 thin_mark : (rows : WholeRows) (path : List Slice) (best : Option ℤ) (cut : Cut) (height : ℕ) → IsMove rows path best height false (moves.Split cut) → IsMarked rows path best cut cut.mark → IsThinMove rows path best cut
 thin_mark rows path best cut height chosen marked = by_mark cut.mark refl marked where
@@ -90,13 +106,15 @@ module _ (rows : WholeRows) (cut : Cut) (j : ℤ) (first : pos 0 ≤ℤ j) (last
   plain_child node (Settled move) is b = absurd is
   plain_child node (Framed child) is b = absurd is
   plain_child node (Plain child) is b =
-      let move = plain_mark rows path best cut (height_of rows (Plain node) path) b.chosen b.allowed.1.0 in
+      let move = plain_mark rows path best cut (height_of rows (Plain node) path) b.chosen b.allowed.1 in
       let slice : List Slice = record { form = cut.form; beta = cut.lo +ℤ j } ∷ [] in
       record {
         here = λ other plain. (
           plain.0,
-          subst (λ d. IsPlainFrom rows d (on_slice path cut.form (cut.lo +ℤ j))) (sym is.1) (below_plain rows node.depth path plain.1.0 best cut j move b.allowed.0 first last),
-          subst (λ (e : Excuse). IsExcusedAbove rows (on_slice path cut.form (cut.lo +ℤ j)) other e) (sym is.0) (excused_below rows path slice other node.excuse.value plain.1.1),
+          (
+            subst (λ d. IsPlainFrom rows d (on_slice path cut.form (cut.lo +ℤ j))) (sym is.1) (below_plain rows node.depth path plain.1.0 best cut j move b.allowed.0 first last),
+            subst (λ (e : Excuse). IsExcusedAbove rows (on_slice path cut.form (cut.lo +ℤ j)) other e) (sym is.0) (excused_below rows path slice other node.excuse.value plain.1.1),
+          ),
         );
         lower = subst (λ d. ((d + length rows.box) - length (on_slice path cut.form (cut.lo +ℤ j))) + 1 ≤ (node.depth + length rows.box) - length path) (sym is.1) (lower_plain rows node.depth path b.here.1.0 best cut j move b.allowed.0 first last);
         plain = λ h. refl;
@@ -105,7 +123,7 @@ module _ (rows : WholeRows) (cut : Cut) (j : ℤ) (first : pos 0 ≤ℤ j) (last
   -- the node of a slice of a node with a frame
   pub sliced_node : (node : Node) → At (Framed node) → IsSlicedNode rows node.frame cut.form (cut.lo +ℤ j) path
   sliced_node node b =
-      let thin = thin_mark rows path best cut (height_of rows (Framed node) path) b.chosen b.allowed.1.0 in
+      let thin = thin_mark rows path best cut (height_of rows (Framed node) path) b.chosen b.allowed.1 in
       let along_it = thin_with_slice rows path best cut (omega (linear, first, last)) thin.cause in
       record {
         of_node = b.here.1.of_node;
@@ -119,7 +137,7 @@ module _ (rows : WholeRows) (cut : Cut) (j : ℤ) (first : pos 0 ≤ℤ j) (last
   pub framed_child : (node : Node) (child : Place) → IsSlicePlace rows node path (record { form = cut.form; beta = cut.lo +ℤ j }) child → At (Framed node) → Below (Framed node) child
   framed_child node (Settled move) is b = absurd is
   framed_child node (Framed child) is b =
-      let thin = thin_mark rows path best cut (height_of rows (Framed node) path) b.chosen b.allowed.1.0 in
+      let thin = thin_mark rows path best cut (height_of rows (Framed node) path) b.chosen b.allowed.1 in
       let more = longer rows path best cut j b.here.1.within b.allowed.0 first last in
       record {
         here = λ other framed. (
@@ -136,13 +154,15 @@ module _ (rows : WholeRows) (cut : Cut) (j : ℤ) (first : pos 0 ≤ℤ j) (last
         plain = λ h. absurd (cc h);
       }
   framed_child node (Plain child) is b =
-      let thin = thin_mark rows path best cut (height_of rows (Framed node) path) b.chosen b.allowed.1.0 in
+      let thin = thin_mark rows path best cut (height_of rows (Framed node) path) b.chosen b.allowed.1 in
       let deeper : child.depth ≡ length path + 1 = let d = b.here.1.depth in omega (arith, d, is.0) in
       record {
         here = λ other framed. (
           framed.0,
-          subst (λ d. IsPlainFrom rows d (on_slice path cut.form (cut.lo +ℤ j))) (sym deeper) (begins_plain rows path best cut j framed.1.within b.allowed.0 first last thin),
-          excused_slice rows path node.frame (record { form = cut.form; beta = cut.lo +ℤ j }) child.excuse.value is.1 other,
+          (
+            subst (λ d. IsPlainFrom rows d (on_slice path cut.form (cut.lo +ℤ j))) (sym deeper) (begins_plain rows path best cut j framed.1.within b.allowed.0 first last thin),
+            excused_slice rows path node.frame (record { form = cut.form; beta = cut.lo +ℤ j }) child.excuse.value is.1 other,
+          ),
         );
         lower = subst (λ d. ((d + length rows.box) - length (on_slice path cut.form (cut.lo +ℤ j))) + 1 ≤ 2 * length rows.box - length path) (sym deeper) (place_laws.lower_plain rows path best cut j b.here.1.within b.allowed.0 first last thin);
         plain = λ h. refl;

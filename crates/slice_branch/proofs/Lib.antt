@@ -1,5 +1,4 @@
 mod BrancherLaws
-mod ChangeLaws
 mod DimensionLaws
 mod FramedLaws
 mod PlaceLaws

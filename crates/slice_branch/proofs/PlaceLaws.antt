@@ -166,7 +166,7 @@ root_within rows limits = record {
 
 -- the place of a root stands for it
 pub root_stands : (rows : WholeRows) → IsWithinLimits rows → (place : Place) → IsRootPlace rows place → StandsFor rows place [] None
-root_stands rows limits (places.Settled move) h = (tt, root_within rows limits, refl, h)
+root_stands rows limits (places.Settled move) h = (tt, (root_within rows limits, refl, h))
 root_stands rows limits (places.Framed node) h = (
   tt,
   record {
@@ -177,7 +177,7 @@ root_stands rows limits (places.Framed node) h = (
     short = let d = h.3 in omega (arith, d);
   },
 )
-root_stands rows limits (places.Plain node) h = (tt, subst (λ d. IsPlainFrom rows d []) (sym h.0) (turns_plain rows [] (root_within rows limits) (omega arith)), excused_here rows [] None node.excuse.value tt h.1)
+root_stands rows limits (places.Plain node) h = (tt, (subst (λ d. IsPlainFrom rows d []) (sym h.0) (turns_plain rows [] (root_within rows limits) (omega arith)), excused_here rows [] None node.excuse.value tt h.1))
 
 -- what follows of a value follows of an answer
 pub on_ok : {T E : Type 0} (P Q : T → Type 0) (result : Result T E) → ((value : T) → P value → Q value) → IfOk result P → IfOk result Q

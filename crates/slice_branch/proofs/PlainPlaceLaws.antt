@@ -1,13 +1,12 @@
 -- The places of nodes that are excused.
-use Rattle.std.proofs.Common.{◌≡◌, ℕ, ◌+◌, ℤ, List, [], refl, sym, subst, Result, Ok, Err}
-use Rattle.std.specs.Prelude.{Option, None, IfOk}
+use Rattle.std.proofs.Common.{◌+◌, List, [], sym, subst, Result, Ok, Err}
+use Rattle.std.specs.Prelude.{None, IfOk}
 use Rattle.whole_rows.specs.WholeRows.{WholeRows}
 use Rattle.farkas_rows.specs.declared.path.Slice.{Slice}
 use Rattle.reformulate.specs.declared.outcome.FrameExcuse.{FrameExcuse}
-use Rattle.exact_nodes.specs.PathExcuses.{IsExcused, IsExcusedIn, IsExcusedSlice}
+use Rattle.exact_nodes.specs.PathExcuses.{IsExcused, IsExcusedSlice}
 use Rattle.exact_nodes.specs.declared.excuse.Excuse.{Excuse}
 use Rattle.exact_nodes.specs.declared.excuse.Excuse.TheVariants.{Frame}
-use Rattle.slice_branch.specs.ExcusedPaths.{IsExcusedBySlice}
 use Rattle.slice_branch.specs.Places.{IsRootPlace, IsSlicePlace}
 use Rattle.slice_branch.specs.PlainPlaces.{IsPlainPlace}
 use Rattle.slice_branch.specs.declared.place.Node.{Node}
@@ -27,4 +26,4 @@ pub plain_slice : {E : Type 0} (rows : WholeRows) (node : Node) (slice : Slice) 
 plain_slice rows node slice stop There (Err e) excused is = tt
 plain_slice rows node slice stop There (Ok (Settled move)) excused is = absurd is
 plain_slice rows node slice stop There (Ok (Framed child)) excused is = absurd is
-plain_slice rows node slice stop There (Ok (Plain child)) excused is = λ path there. (is.1, stop, is.0, excused path there)
+plain_slice rows node slice stop There (Ok (Plain child)) excused is = λ path there. (is.1, (stop, is.0, excused path there))

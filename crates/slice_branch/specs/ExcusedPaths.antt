@@ -19,7 +19,7 @@ IsExcusedPath rows path best = (excuse : Excuse) × IsExcusedAbove rows path bes
 
 -- the excuse is that this slice of the frame, which is one of the node, has none
 abbrev pub IsExcusedBySlice : WholeRows → List Slice → Substitution → Slice → Excuse → Type 0
-IsExcusedBySlice rows path frame slice excuse = (stop : FrameExcuse) × (excuse ≡ Frame stop) × IsExcusedSlice rows path frame slice stop
+IsExcusedBySlice rows path frame last excuse = (stop : FrameExcuse) × (excuse ≡ Frame stop) × IsExcusedSlice rows path frame last stop
 
 -- no value is higher than itself
 pub not_higher : (value : Option ℤ) → IsNoHigher value value

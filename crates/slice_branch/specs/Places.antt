@@ -90,7 +90,7 @@ IsSlicePlace rows node path slice (Plain child) = (child.depth ≡ node.depth + 
 pub stands_under : (rows : WholeRows) (place : Place) (path : List Slice) (now before : Option ℤ) → IsValueOfPoint rows now → IsNoHigher now before → StandsFor rows place path before → StandsFor rows place path now
 stands_under rows (Settled move) path now before value lower here = (value, here.1)
 stands_under rows (Framed node) path now before value lower here = (value, here.1)
-stands_under rows (Plain node) path now before value lower here = (value, here.1.0, excused_lower rows path now before node.excuse.value lower here.1.1)
+stands_under rows (Plain node) path now before value lower here = (value, (here.1.0, excused_lower rows path now before node.excuse.value lower here.1.1))
 
 -- no path is longer than two slices for each column
 pub path_is_short : (rows : WholeRows) (place : Place) (path : List Slice) (best : Option ℤ) → StandsFor rows place path best → length path + height_of rows place path ≤ 2 * length rows.box

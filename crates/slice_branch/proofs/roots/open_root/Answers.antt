@@ -1,4 +1,4 @@
-use Rattle.std.proofs.Common.{ℕ, List, [], refl, subst, subst₂}
+use Rattle.std.proofs.Common.{ℕ, List, refl, subst, subst₂}
 use Rattle.exact_nodes.specs.PathExcuses.IsExcused.{root}
 use Rattle.exact_nodes.specs.declared.excuse.Excuse.TheVariants.{Frame}
 use Rattle.reformulate.specs.Excuses.{ExcusedOn, StopsSo}
