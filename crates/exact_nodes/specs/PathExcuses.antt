@@ -64,9 +64,10 @@ pub record PairStops (frame : Substitution) (equality : Equality) (excuse : Fram
   pub first : get_or pair.u 0 [] ≡ pulled_form frame.to_work equality.form
   pub leaves : SliceLeaves frame pair (rest_of equality frame.to_work.base) excuse
 
--- The frame is one of the node at the end of the path, and the excuse holds of this slice of it.
+-- The frame is one of the node at the end of the path, and the excuse holds of this slice of it, whose form has 0 in the columns that presolving removes.
 pub record IsExcusedSlice (rows : WholeRows) (path : List Slice) (frame : Substitution) (slice : Slice) (excuse : FrameExcuse) : Type 0 where
   pub of_node : IsNodeFrame rows path frame
+  pub kept : IsKeptForm rows.box slice.form
   pub stops : CompletionStops frame (work_slice of_node.work slice) excuse ⊎ PairStops frame (work_slice of_node.work slice) excuse
 
 -- the path is that of such a node and the slice more

@@ -92,7 +92,7 @@ module _ (rows : List (List ℚ)) (limits form : List ℚ) (width : HasWidth (le
     row = get_or d.rows i []
 
     there : i < length d.rows
-    there = omega (arith, r.shape.height, stuck.row_there)
+    there = omega (arith, r.shape.height, stuck.first.inside)
 
     long : length row ≡ length d.outside + 1
     unfolding row
@@ -109,23 +109,23 @@ module _ (rows : List (List ℚ)) (limits form : List ℚ) (width : HasWidth (le
     gives_constant y e =
         let x : ℕ → ℚ = values_at rows limits form width many y in
         let solved : Solves d x (dot rationals form y) = (r.same x (dot rationals form y)).1 (point_solves rows limits form width many y e) in
-        let basic : get_or (map x d.basic ++ dot rationals form y ∷ []) i none ≡ x (get_or d.basic i 0) = (let inside : i < length (map x d.basic) = simp length-map stuck.row_there in get_or_append_left (map x d.basic) (dot rationals form y ∷ []) none i inside) ∙ get_or-map x d.basic i 0 none stuck.row_there in
+        let basic : get_or (map x d.basic ++ dot rationals form y ∷ []) i none ≡ x (get_or d.basic i 0) = (let inside : i < length (map x d.basic) = simp length-map stuck.first.inside in get_or_append_left (map x d.basic) (dot rationals form y ∷ []) none i inside) ∙ get_or-map x d.basic i 0 none stuck.first.inside in
         let equation : x (get_or d.basic i 0) ≡ dot rationals row (map x d.outside) +ℚ constant_at d i = sym (row_equation x (dot rationals form y) i solved there ∙ basic) in
         let many_items : length (get_or d.basic i 0 ∷ d.outside) ≤ length (one ∷ negate rationals row) = omega (arith, long, length-map row neg_ℚ) in
         ap (dot rationals (row_multipliers d i)) (sym (slacks_at rows limits form width many y e) ∙ ap₂ (λ a b. map x (numbers_from a b)) (sym r.as_many_columns) (sym r.as_many_rows))
-        ∙ exchange x (get_or d.basic i 0 ∷ d.outside) (one ∷ negate rationals row) (length d.outside) (length d.basic) (row_distinct rows limits form d r i stuck.row_there) many_items within before
+        ∙ exchange x (get_or d.basic i 0 ∷ d.outside) (one ∷ negate rationals row) (length d.outside) (length d.basic) (row_distinct rows limits form d r i stuck.first.inside) many_items within before
         ∙ ap (λ z. one *ℚ x (get_or d.basic i 0) +ℚ z) (Dot.dot-negate_left rationals row (map x d.outside))
         ∙ cancel (x (get_or d.basic i 0)) (dot rationals row (map x d.outside)) (constant_at d i) equation
       where
         within : (k : ℕ) → k < length (get_or d.basic i 0 ∷ d.outside) → get_or (get_or d.basic i 0 ∷ d.outside) k 0 < length d.outside + length d.basic
-        within zero lt = omega (arith, basic_bound rows limits form d r i stuck.row_there, r.as_many_columns, r.as_many_rows)
+        within zero lt = omega (arith, basic_bound rows limits form d r i stuck.first.inside, r.as_many_columns, r.as_many_rows)
         within (suc k) lt = omega (arith, outside_bound rows limits form d r k (omega arith), r.as_many_columns, r.as_many_rows)
 
         before : (k : ℕ) → k < length (get_or d.basic i 0 ∷ d.outside) → get_or (get_or d.basic i 0 ∷ d.outside) k 0 < length d.outside → get_or (one ∷ negate rationals row) k none ≡ none
-        before zero lt low = absurd (omega (arith, stuck.below.slack))
+        before zero lt low = absurd (omega (arith, stuck.first.holds.slack))
         before (suc k) lt low =
             let inside : k < length d.outside = omega arith in
-            negated k inside ∙ ap neg_ℚ (free_entry stuck.none_free i k stuck.row_there inside stuck.below.slack low) ∙ Laws.neg_zero rationals
+            negated k inside ∙ ap neg_ℚ (free_entry stuck.none_free i k stuck.first.inside inside stuck.first.holds.slack low) ∙ Laws.neg_zero rationals
 
     -- they are not negative
     row_not_negative : All (λ q. none ≤ℚ q) (row_multipliers d i)
@@ -155,5 +155,5 @@ module _ (rows : List (List ℚ)) (limits form : List ℚ) (width : HasWidth (le
           as_many = length-map (numbers_from (length d.outside) (length d.basic)) _ ∙ length-numbers (length d.outside) (length d.basic) ∙ r.as_many_rows;
           not_negative = row_not_negative;
           factors = both.0 ∙ negate_zeros (length form);
-          limit = subst (λ q. q <ℚ none) (sym (both.1 ∙ Laws.neg_neg rationals (constant_at d i))) (negative_lt (constant_at d i) stuck.below.negative);
+          limit = subst (λ q. q <ℚ none) (sym (both.1 ∙ Laws.neg_neg rationals (constant_at d i))) (negative_lt (constant_at d i) stuck.first.holds.negative);
         }

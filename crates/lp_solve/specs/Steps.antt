@@ -11,11 +11,10 @@ use Rattle.lp_solve.specs.declared.search.Step.TheVariants.{Pivot, WideQuotient,
 abbrev pub FindsFirst : List ℕ → (ℕ → Type 0) → Option ℕ → Type 0
 FindsFirst variables P found = MatchOption found ((k : ℕ) → k < length variables → ¬ (P k)) (IsFirst variables P)
 
--- row `i` is that of a slack below 0 which nothing raises
+-- row `i` is that of the first slack below 0, which nothing raises
 pub record IsStuck (d : Dictionary) (i : ℕ) : Type 0 where
   pub none_free : NoneFree d
-  pub row_there : i < length d.basic
-  pub below : IsBelow d i
+  pub first : IsFirst d.basic (IsBelow d) i
   pub none_raises : (j : ℕ) → j < length d.outside → ¬ (Raises d i j)
 
 -- no slack is below 0, and no slack lowers the form, or one does without a limit

@@ -49,24 +49,25 @@ module _ (rows : WholeRows) (s : Substitution) (form : List ℤ) (beta : ℤ) (p
 
   -- ---- excuses
 
-  excuse_of : (excuse : FrameExcuse) → CompletionStops s equality excuse ⊎ PairStops s equality excuse → IsExcusedSlice rows path s (record { form = form; beta = beta }) excuse
-  excuse_of excuse stops = record {
+  excuse_of : IsKeptForm rows.box form → (excuse : FrameExcuse) → CompletionStops s equality excuse ⊎ PairStops s equality excuse → IsExcusedSlice rows path s (record { form = form; beta = beta }) excuse
+  excuse_of kept excuse stops = record {
     of_node = h;
+    kept = kept;
     stops = subst (λ (f : List ℤ). CompletionStops s (record { form = f; side = beta }) excuse ⊎ PairStops s (record { form = f; side = beta }) excuse) same stops;
   }
 
   -- before the first step
-  pub excuse_of_values : (excuse : FrameExcuse) → (excuse ≡ excuses.Product []) × EqualityLeaves s equality → IsExcusedSlice rows path s (record { form = form; beta = beta }) excuse
-  excuse_of_values excuse leaves = excuse_of excuse (inl (subst (CompletionStops s equality) (sym leaves.0) (inl (refl, leaves.1))))
+  pub excuse_of_values : IsKeptForm rows.box form → (excuse : FrameExcuse) → (excuse ≡ excuses.Product []) × EqualityLeaves s equality → IsExcusedSlice rows path s (record { form = form; beta = beta }) excuse
+  excuse_of_values kept excuse leaves = excuse_of kept excuse (inl (subst (CompletionStops s equality) (sym leaves.0) (inl (refl, leaves.1))))
 
   -- in the gathering
-  pub excuse_of_completion : (excuse : FrameExcuse) (kernel : List ℤ) → kernel ≡ pulled_form s.to_work w → (steps : List Step) × (excuse ≡ excuses.Product steps) × StopsAfter kernel steps → IsExcusedSlice rows path s (record { form = form; beta = beta }) excuse
-  excuse_of_completion excuse kernel is stop =
-      excuse_of excuse (inl (subst (CompletionStops s equality) (sym stop.1) (inr (subst (λ (f : List ℤ). StopsAfter f stop.0) is stop.2))))
+  pub excuse_of_completion : IsKeptForm rows.box form → (excuse : FrameExcuse) (kernel : List ℤ) → kernel ≡ pulled_form s.to_work w → (steps : List Step) × (excuse ≡ excuses.Product steps) × StopsAfter kernel steps → IsExcusedSlice rows path s (record { form = form; beta = beta }) excuse
+  excuse_of_completion kept excuse kernel is stop =
+      excuse_of kept excuse (inl (subst (CompletionStops s equality) (sym stop.1) (inr (subst (λ (f : List ℤ). StopsAfter f stop.0) is stop.2))))
 
   -- in what follows
-  pub excuse_of_pair : (excuse : FrameExcuse) (kernel : List ℤ) (pair : Matrices) (value : ℤ) → kernel ≡ pulled_form s.to_work w → value ≡ beta -ℤ pulled_constant s.to_work w → IsGatheredPair kernel pair → get_or pair.u 0 [] ≡ kernel → SliceLeaves s pair value excuse → IsExcusedSlice rows path s (record { form = form; beta = beta }) excuse
-  excuse_of_pair excuse kernel pair value is is_value gathered first leaves = excuse_of excuse (inr (record {
+  pub excuse_of_pair : IsKeptForm rows.box form → (excuse : FrameExcuse) (kernel : List ℤ) (pair : Matrices) (value : ℤ) → kernel ≡ pulled_form s.to_work w → value ≡ beta -ℤ pulled_constant s.to_work w → IsGatheredPair kernel pair → get_or pair.u 0 [] ≡ kernel → SliceLeaves s pair value excuse → IsExcusedSlice rows path s (record { form = form; beta = beta }) excuse
+  excuse_of_pair kept excuse kernel pair value is is_value gathered first leaves = excuse_of kept excuse (inr (record {
     pair = pair;
     gathered = subst (λ (f : List ℤ). IsGatheredPair f pair) is gathered;
     first = first ∙ is;

@@ -60,11 +60,11 @@ module _ (rows : WholeRows) (placing : AffineMap) (is_map : IsColumnMap rows.box
 
   -- each excuse holds at each path
   pub excused_before : (excuse : FrameExcuse) → (excuse ≡ excuses.Product []) × EqualityLeaves s (record { form = w; side = beta }) → (path : List Slice) → IsSlicedNode rows s form beta path → IsExcusedSlice rows path s (record { form = form; beta = beta }) excuse
-  excused_before excuse leaves path node = excuse_of_values rows s form beta path node.of_node w (over_work path node) excuse leaves
+  excused_before excuse leaves path node = excuse_of_values rows s form beta path node.of_node w (over_work path node) node.kept excuse leaves
 
   pub excused_there : (kernel : List ℤ) → kernel ≡ pulled_form s.to_work w → (excuse : FrameExcuse) → (steps : List Step) × (excuse ≡ excuses.Product steps) × StopsAfter kernel steps → (path : List Slice) → IsSlicedNode rows s form beta path → IsExcusedSlice rows path s (record { form = form; beta = beta }) excuse
-  excused_there kernel is excuse stop path node = excuse_of_completion rows s form beta path node.of_node w (over_work path node) excuse kernel is stop
+  excused_there kernel is excuse stop path node = excuse_of_completion rows s form beta path node.of_node w (over_work path node) node.kept excuse kernel is stop
 
   pub excused_behind : (kernel : List ℤ) (pair : Matrices) (value : ℤ) → kernel ≡ pulled_form s.to_work w → value ≡ beta -ℤ pulled_constant s.to_work w → IsGatheredPair kernel pair → get_or pair.u 0 [] ≡ kernel → (excuse : FrameExcuse) → SliceLeaves s pair value excuse → (path : List Slice) → IsSlicedNode rows s form beta path → IsExcusedSlice rows path s (record { form = form; beta = beta }) excuse
   excused_behind kernel pair value is is_value gathered first excuse leaves path node =
-      excuse_of_pair rows s form beta path node.of_node w (over_work path node) excuse kernel pair value is is_value gathered first leaves
+      excuse_of_pair rows s form beta path node.of_node w (over_work path node) node.kept excuse kernel pair value is is_value gathered first leaves

@@ -119,6 +119,8 @@ back_leaves base back lines vectors basis turned pair last steps e h v a t leave
       end = rows_in basis;
       base = last;
       reduces = subst₂ (λ n l. ReducesBeside n l base steps (rows_in basis) pair last) (v.width ∙ sym e) (vectors_are back lines vectors h v) a.legal;
+      reduced = subst₂ (λ n r. IsLovaszReduced n (rational_rows (items_of (rows_in basis))) r) (v.width ∙ sym e) (v.height ∙ sym (Tables.length-rows_in back ∙ h.height)) a.reduced;
+      short = subst (λ n. IsShortBeside n (rows_in basis) last) (v.width ∙ sym e) a.short;
       leaves = λ stays. leaves (subst₂ (λ n l. MatricesStay n l (rows_in back)) (e ∙ sym h.width) (ap (λ k. transpose k pair.v) (sym count) ∙ sym t) stays);
     }
 

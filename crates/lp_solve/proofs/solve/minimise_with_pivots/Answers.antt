@@ -103,7 +103,7 @@ empty-requires-clause-row_there c =
     let limits = c.args.system.now.limits in
     let form = c.args.form.now in
     let end : EndingIs c.in_ok-dict.dict c.run.new.dict c.run.new.pivots (Stuck c.in-Stuck.row) = subst (EndingIs c.in_ok-dict.dict c.run.new.dict c.run.new.pivots) c.in-Stuck.is c.in_ok-row.ensures.ending in
-    end.1.row_there
+    end.1.first.inside
 
 pub empty-requires-clause-width : goal.empty-requires-clause-width
 empty-requires-clause-width c =
@@ -112,7 +112,7 @@ empty-requires-clause-width c =
     let form = c.args.form.now in
     let end : EndingIs c.in_ok-dict.dict c.run.new.dict c.run.new.pivots (Stuck c.in-Stuck.row) = subst (EndingIs c.in_ok-dict.dict c.run.new.dict c.run.new.pivots) c.in-Stuck.is c.in_ok-row.ensures.ending in
     let now = reached_from t limits form c.requires.condition c.rows-rows.ensures.size c.in_ok-dict.dict c.run.new.dict c.run.new.pivots c.in_ok-dict.ensures c.in_ok-row.ensures.legal end.0 in
-    row_width t limits form c.requires.condition c.rows-rows.ensures.size c.run.new.dict now c.in-Stuck.row (omega (arith, end.1.row_there))
+    row_width t limits form c.requires.condition c.rows-rows.ensures.size c.run.new.dict now c.in-Stuck.row (omega (arith, end.1.first.inside))
 
 pub returns-in-Stuck-clause-solved : goal.returns-in-Stuck-clause-solved
 returns-in-Stuck-clause-solved c =
