@@ -235,7 +235,7 @@ module _ (rows : List (List ℚ)) (limits form : List ℚ) (width : HasWidth (le
       (λ j h g. not_negative (form_at d j) (λ n. none_lowers j h (record { slack = omega (arith, g); negative = n }))))
 
   pub least_shown : IsEnd d → ShowsLeast (length form) rows limits form (vertex d) (form_at d (length d.outside)) (form_multipliers d)
-  least_shown e = elim e.column [ inl none_lowers ↦ shown none_lowers | inr ray ↦ absurd (no_ray ray.0 ray.1 ray.2 ray.3) ]
+  least_shown e = elim e.column [ inl none_lowers ↦ shown none_lowers | inr ray ↦ absurd (no_ray ray.0 ray.1.inside ray.1.holds ray.2) ]
     where
       shown : ((j : ℕ) → j < length d.outside → ¬ (Lowers d j)) → ShowsLeast (length form) rows limits form (vertex d) (form_at d (length d.outside)) (form_multipliers d)
       shown none_lowers =

@@ -17,11 +17,11 @@ pub record IsStuck (d : Dictionary) (i : ℕ) : Type 0 where
   pub first : IsFirst d.basic (IsBelow d) i
   pub none_raises : (j : ℕ) → j < length d.outside → ¬ (Raises d i j)
 
--- no slack is below 0, and no slack lowers the form, or one does without a limit
+-- no slack is below 0, and no slack lowers the form, or the first that does has no limit
 pub record IsEnd (d : Dictionary) : Type 0 where
   pub none_free : NoneFree d
   pub none_below : NoneBelow d
-  pub column : ((j : ℕ) → j < length d.outside → ¬ (Lowers d j)) ⊎ ((j : ℕ) × (j < length d.outside) × Lowers d j × ((i : ℕ) → i < length d.basic → ¬ (Limits d j i)))
+  pub column : ((j : ℕ) → j < length d.outside → ¬ (Lowers d j)) ⊎ ((j : ℕ) × IsFirst d.outside (Lowers d) j × ((i : ℕ) → i < length d.basic → ¬ (Limits d j i)))
 
 -- what a step says of the dictionary
 abbrev pub StepIs : Dictionary → Step → Type 0

@@ -40,9 +40,12 @@ nodes_within-power w zero = omega (arith, pow-zero (w + 2))
 nodes_within-power w (suc h) = omega (arith, pow-succ' (w + 2) h, mul-le-mul_left (w + 1) (nodes_within-power w h), nodes_within-some w h, nodes_within-power w h)
 
 module _ (allows : WholeRows → List Slice → Option ℤ → Move → Type 0) (rows : WholeRows) (plain : Bool) (height nodes : ℕ) (walk : Walk) (part : PartTree) (best : Option (List ℤ)) (limits : IsWithinLimits rows) (w : Worked allows rows plain height nodes [] None walk part) (is : best ≡ point_of_best walk.best) where
+  within_power : height ≤ 2 * length rows.box → nodes_within (widest rows.box) height ≤ (widest rows.box + 2) ^ (2 * length rows.box)
+  within_power low = omega (arith, nodes_within-higher (widest rows.box) height (2 * length rows.box) low, nodes_within-power (widest rows.box) (2 * length rows.box))
+
   -- no node is open
-  pub IsDone-from : (tree : Tree) → IsWholeOf part tree → IsDone (allows rows) rows plain nodes tree best
-  IsDone-from tree whole =
+  pub IsDone-from : height ≤ 2 * length rows.box → (tree : Tree) → IsWholeOf part tree → IsDone (allows rows) rows plain nodes tree best
+  IsDone-from low tree whole =
       let value : value_of_best walk.best ≡ value_found rows best = value_is rows walk.best w.improved.known ∙ ap (value_found rows) (sym is) in
       let known : IfSome best (Meets rows) = rw is (point_meets rows walk.best w.improved.known) in
       let holds : Holds rows (value_found rows best) [] tree = Holds-whole rows (value_found rows best) [] part tree whole (rw value at w.holds) in
@@ -51,6 +54,7 @@ module _ (allows : WholeRows → List Slice → Option ℤ → Move → Type 0) 
         holds = holds;
         follows = Follows-whole (allows rows) (value_found rows best) plain [] part tree whole (rw value at w.follows);
         counted = omega (arith, records-whole part tree whole, w.counted);
+        few = omega (arith, records-whole part tree whole, w.few, within_power low);
         least = best_holds rows best tree limits known holds;
       }
 
@@ -65,5 +69,5 @@ module _ (allows : WholeRows → List Slice → Option ℤ → Move → Type 0) 
         follows = rw value at w.follows;
         counted = omega (arith, w.counted, w.spent unfinished);
         unfinished = unfinished;
-        few = omega (arith, w.counted, w.spent unfinished, w.few, nodes_within-higher (widest rows.box) height (2 * length rows.box) low, nodes_within-power (widest rows.box) (2 * length rows.box));
+        few = omega (arith, w.counted, w.spent unfinished, w.few, within_power low);
       }

@@ -23,12 +23,14 @@ abbrev pub IsBestOf : WholeRows → Option (List ℤ) → Type 0
 IsBestOf rows None = (x : List ℤ) → Meets rows x → ⊥
 IsBestOf rows (Some x) = HasLeastCutValue rows x
 
--- The tree holds for the best point that was found, and each of its nodes was worked by a move that was allowed there.
+-- The tree holds for the best point that was found, and each of its nodes was worked by a move that was allowed there. They are at most as many as
+-- the budget, and as are always enough.
 pub record IsDone (allows : List Slice → Option ℤ → Move → Type 0) (rows : WholeRows) (plain : Bool) (nodes : ℕ) (tree : Tree) (best : Option (List ℤ)) : Type 0 where
   pub known : IfSome best (Meets rows)
   pub holds : Holds rows (value_found rows best) [] tree
   pub follows : Follows allows (value_found rows best) plain [] tree
   pub counted : records tree ≤ nodes
+  pub few : records tree ≤ (widest rows.box + 2) ^ (2 * length rows.box)
   pub least : IsBestOf rows best
 
 -- The same as far as the nodes of the budget go, each of which was worked, while some node is open. The budget is then below

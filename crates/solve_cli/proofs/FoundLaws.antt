@@ -37,6 +37,12 @@ module _ (plain : Bool) (nodes : ℕ) (model : Model) (has : HasRows model) wher
   bare_same : (head : List ℕ) (a b c d : ℕ) → a ≡ b → c ≡ d → bare_lines head a c ≡ bare_lines head b d
   bare_same head a b c d f g = rw (f, g) refl
 
+  few_nodes : nodes < (widest (rows_of model).box + 2) ^ (2 * length (rows_of model).box) → nodes < enough_nodes model
+  few_nodes few = subst (λ n. nodes < (widest (rows_of model).box + 2) ^ (2 * n)) (length-map model.columns rounded_bounds) few
+
+  few_records : (count : ℕ) → count ≤ (widest (rows_of model).box + 2) ^ (2 * length (rows_of model).box) → count ≤ enough_nodes model
+  few_records count few = subst (λ n. count ≤ (widest (rows_of model).box + 2) ^ (2 * n)) (length-map model.columns rounded_bounds) few
+
   pub finds_best : (columns : List Column) → IsWithinLimits (rows_of model) → nodes ≤ 1000 → (tree : Tree) (point : List ℤ) (value : ℚ) (a b : ℕ) → IsTree tree (Some point)
       → value ≡ value_at model point → a ≡ records tree → b ≡ plain_splits tree → FindsBest columns nodes model (with_proof (found_lines (codes "OPTIMAL") value columns point a b) (proof_text (claims.Optimal point) tree))
   finds_best columns limits few tree point value a b done is_value is_a is_b = record {
@@ -47,6 +53,7 @@ module _ (plain : Bool) (nodes : ℕ) (model : Model) (has : HasRows model) wher
     shown = done.holds;
     marked = (plain, done.follows);
     within = done.counted;
+    few = few_records (records tree) done.few;
     report = ap (λ lines. with_proof lines (proof_text (claims.Optimal point) tree)) (found_same columns (codes "OPTIMAL") value (value_at model point) point a (records tree) b (plain_splits tree) is_value is_a is_b);
     accepted = written_accepted (rows_of model) (claims.Optimal point) tree limits done.known done.holds;
     short = omega (arith, few, done.counted, proof_bytes (rows_of model) (claims.Optimal point) tree limits done.known done.holds);
@@ -60,13 +67,11 @@ module _ (plain : Bool) (nodes : ℕ) (model : Model) (has : HasRows model) wher
     shown = done.holds;
     marked = (plain, done.follows);
     within = done.counted;
+    few = few_records (records tree) done.few;
     report = ap (λ lines. with_proof lines (proof_text claims.Infeasible tree)) (bare_same (codes "INFEASIBLE") a (records tree) b (plain_splits tree) is_a is_b);
     accepted = written_accepted (rows_of model) claims.Infeasible tree limits tt done.holds;
     short = omega (arith, few, done.counted, proof_bytes (rows_of model) claims.Infeasible tree limits tt done.holds);
   }
-
-  few_nodes : nodes < (widest (rows_of model).box + 2) ^ (2 * length (rows_of model).box) → nodes < enough_nodes model
-  few_nodes few = subst (λ n. nodes < (widest (rows_of model).box + 2) ^ (2 * n)) (length-map model.columns rounded_bounds) few
 
   pub spends_with : (columns : List Column) (part : PartTree) (point : List ℤ) (value : ℚ) (a b : ℕ) → IsPart part (Some point) → value ≡ value_at model point → a ≡ records_of_part part → b ≡ plain_splits_of_part part
       → SpendsBudget columns nodes model (with_proof (found_lines (codes "SPENT") value columns point a b) (part_text part))

@@ -39,9 +39,9 @@ rows_of model = (integer_rows model).whole
 abbrev pub enough_nodes : Model → ℕ
 enough_nodes model = (widest (rows_of model).box + 2) ^ (2 * length model.columns)
 
--- No part is too large, and a best point was found: a tree of no more nodes than the budget, whose splits are marked by what they are, shows that none
--- is better. The report
--- has a line for each of these columns. The proof claims that point, a checker accepts it, and it is within the limit of a proof.
+-- No part is too large, and a best point was found: a tree of no more nodes than the budget, and than are always enough, whose splits are marked by what
+-- they are, shows that none is better. The report has a line for each of these columns. The proof claims that point, a checker accepts it, and it is within
+-- the limit of a proof.
 pub record FindsBest (columns : List Column) (nodes : ℕ) (model : Model) (out : Output) : Type 0 where
   pub small : HasNoLargePart model
   pub point : List ℤ
@@ -50,12 +50,13 @@ pub record FindsBest (columns : List Column) (nodes : ℕ) (model : Model) (out 
   pub shown : Holds (rows_of model) (Some (cut_value (rows_of model) point)) [] tree
   pub marked : IsMarkedTree (rows_of model) (Some (cut_value (rows_of model) point)) tree
   pub within : records tree ≤ nodes
+  pub few : records tree ≤ enough_nodes model
   pub report : out ≡ with_proof (found_lines (codes "OPTIMAL") (value_at model point) columns point (records tree) (plain_splits tree)) (proof_text (claims.Optimal point) tree)
   pub accepted : Accepts (rows_of model) out.proof (claims.Optimal point)
   pub short : length out.proof ≤ most_proof_bytes
 
--- No part is too large, and the model has no point, as a tree of no more nodes than the budget shows, whose splits are marked by what they are. A checker
--- accepts the proof, which is within the limit.
+-- No part is too large, and the model has no point, as a tree of no more nodes than the budget, and than are always enough, shows, whose splits are marked
+-- by what they are. A checker accepts the proof, which is within the limit.
 pub record FindsNone (nodes : ℕ) (model : Model) (out : Output) : Type 0 where
   pub small : HasNoLargePart model
   pub none : (x : List ℤ) → IsPoint model x → ⊥
@@ -63,6 +64,7 @@ pub record FindsNone (nodes : ℕ) (model : Model) (out : Output) : Type 0 where
   pub shown : Holds (rows_of model) None [] tree
   pub marked : IsMarkedTree (rows_of model) None tree
   pub within : records tree ≤ nodes
+  pub few : records tree ≤ enough_nodes model
   pub report : out ≡ with_proof (bare_lines (codes "INFEASIBLE") (records tree) (plain_splits tree)) (proof_text claims.Infeasible tree)
   pub accepted : Accepts (rows_of model) out.proof claims.Infeasible
   pub short : length out.proof ≤ most_proof_bytes

@@ -328,6 +328,16 @@ fn proofs_are_put(rt: HostRuntime) -> Result<(), Fail> {
     Ok(())
 }
 
+#[test]
+fn small_models_have_no_plain_split(rt: HostRuntime) -> Result<(), Fail> {
+    for (model, code) in [(TWO_CONSTRAINTS, 0), (THIN_TRIANGLE, 1)] {
+        let (ended, said) = says(rt.alloc(), "solve m p", model, "", 0)?;
+        assert_eq!(rt; ended, code, "of {model}");
+        assert!(rt; said.ends_with(b"\nPLAIN 0\n"), "of {model}");
+    }
+    Ok(())
+}
+
 // So many rows with the side 1, and so many columns, each with a factor in one row.
 fn grid(alloc: Global, rows: u32, columns: u32) -> Result<String, AllocError> {
     let mut text = String::from_str(alloc, "ROWS\n")?;
