@@ -1,7 +1,7 @@
 //! Runs of the program over desks in memory.
 use crate::model_texts::{
     EMPTY, EVEN_SUM, EVEN_SUM_FAR, FAR_COINS, HALVES, HEAVY, LARGE_COINS, PARITY_LINES,
-    PARITY_PAIR, PRICED, RANGED, SPLIT_FIXED, SPLIT_FREE, THIN_TRIANGLE, TWO_COINS,
+    PARITY_PAIR, PRICED, RANGED, SKEW_STRIP, SPLIT_FIXED, SPLIT_FREE, THIN_TRIANGLE, TWO_COINS,
     TWO_COINS_AGAIN, TWO_COINS_UNREACHABLE, TWO_CONSTRAINTS,
 };
 use desk_io::{MemDesk, SureDesk};
@@ -57,6 +57,12 @@ const MODELS: &[Case<'static>] = &[
     (
         "solve --nodes 1 m p",
         LARGE_COINS,
+        1,
+        "INFEASIBLE\nNODES 1\nPLAIN 0\n",
+    ),
+    (
+        "solve --nodes 1 m p",
+        SKEW_STRIP,
         1,
         "INFEASIBLE\nNODES 1\nPLAIN 0\n",
     ),
@@ -329,11 +335,16 @@ fn proofs_are_put(rt: HostRuntime) -> Result<(), Fail> {
 }
 
 #[test]
-fn small_models_have_no_plain_split(rt: HostRuntime) -> Result<(), Fail> {
-    for (model, code) in [(TWO_CONSTRAINTS, 0), (THIN_TRIANGLE, 1)] {
+fn only_far_coins_have_a_plain_split(rt: HostRuntime) -> Result<(), Fail> {
+    for (model, code, is_plain) in [
+        (TWO_CONSTRAINTS, 0, false),
+        (THIN_TRIANGLE, 1, false),
+        (FAR_COINS, 0, true),
+    ] {
         let (ended, said) = says(rt.alloc(), "solve m p", model, "", 0)?;
         assert_eq!(rt; ended, code, "of {model}");
-        assert!(rt; said.ends_with(b"\nPLAIN 0\n"), "of {model}");
+        let has_none = said.ends_with(b"\nPLAIN 0\n");
+        assert_eq!(rt; has_none, !is_plain, "of {model}");
     }
     Ok(())
 }

@@ -25,6 +25,10 @@ pub(crate) const PARITY_PAIR: &str =
 pub(crate) const THIN_TRIANGLE: &str =
     "NAME thin triangle\nROWS\n G a\n G b\n L c\nCOLUMNS\n x a 10 b 1\n x c 10\n y a 1 b 10\n y c 11\nRHS\n a 2 b 2\n c 19\nBOUNDS\n UI x 2\n UI y 2\nENDATA\n";
 
+// 301 <= 1001x - 1000y <= 699
+pub(crate) const SKEW_STRIP: &str =
+    "NAME skew strip\nROWS\n G r\nCOLUMNS\n x r 1001\n y r -1000\nRHS\n r 301\nRANGES\n r 398\nBOUNDS\n UI x 300\n UI y 300\nENDATA\n";
+
 pub(crate) const TWO_CONSTRAINTS: &str =
     "NAME two constraints\nROWS\n N cost\n L a\n L b\nCOLUMNS\n x cost -5 a 6\n x b 1\n y cost -4 a 4\n y b 2\nRHS\n a 24 b 6\nBOUNDS\n UI x 10\n UI y 10\nENDATA\n";
 
