@@ -10,13 +10,9 @@ mod model;
 mod numbers;
 mod points;
 mod programs;
-mod task;
 
 pub use directions::ends::Direction;
 pub use forms::row_forms::row_forms;
 pub use found::Found;
 pub use halt::Halt;
-pub use model::OpenModel;
-pub use numbers::factors::divisor_of;
 pub use programs::{Programs, Sliced};
-pub use task::Task;

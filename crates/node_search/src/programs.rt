@@ -11,11 +11,11 @@ use crate::forms::frame_forms::{own_forms, root_forms, slice_forms};
 use crate::forms::short::Shortener;
 use crate::found::Found;
 use crate::halt::Halt;
-use crate::model::OpenModel;
+use crate::model::has_costs;
 use crate::points::dive::{Look, look_through};
 use crate::points::near::{near, whole};
 use crate::programs::parts::{cheapest, met};
-use crate::task::Task;
+use node_task::{OpenModel, Task};
 use range_dict::{Met, RangeDict, RangeStop, Vertex};
 use reformulate::{Equalities, Frame};
 use sequence::NoMemory;
@@ -107,7 +107,7 @@ fn first_try(
     requires { HasForms (length task.rows.now.box) task.path.now }
     ensures { IfOk result (λ found. IfSome found (Improves task.entry.rows.now task.entry.best task.entry.path.now)) }
 {
-    if task.has_costs() {
+    if has_costs(task) {
         near(alloc, model, task, thin, vertex)
     } else {
         whole(alloc, task, vertex)

@@ -7,7 +7,7 @@ ghost use Rattle.slice_branch.specs.Framed.{IsTried};
 
 use exact_nodes::{Exact, Excuse, exact_move};
 use node_lines::Node;
-use node_search::{OpenModel, Task};
+use node_task::{OpenModel, Task};
 use proof_tree::Move;
 use reformulate::Frame;
 use sequence::NoMemory;

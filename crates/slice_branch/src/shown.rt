@@ -5,7 +5,8 @@ ghost use Rattle.slice_branch.specs.SeenPoints.{ArePoints, IsAtLeastAt, IsAtMost
 
 use exact_vectors::dot_checked;
 use node_point::NodePoint;
-use node_search::{Halt, Task};
+use node_search::Halt;
+use node_task::Task;
 use range_dict::Vertex;
 use std::alloc::Global;
 

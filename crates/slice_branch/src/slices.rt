@@ -6,8 +6,9 @@ ghost use Rattle.slice_branch.specs.Places.{IsSlicePlace};
 
 use crate::place::{Node, Place, plain_place};
 use exact_nodes::Excuse;
-use node_search::{OpenModel, Sliced};
+use node_search::Sliced;
 use node_slices::{SliceFrame, slice_frame};
+use node_task::OpenModel;
 use sequence::NoMemory;
 use spaces::{Form, Original};
 use std::alloc::Global;

@@ -2,10 +2,10 @@
 use crate::directions::ends::Direction;
 use crate::directions::seen::Seen;
 use crate::halt::Halt;
-use crate::model::OpenModel;
+use crate::model::column;
 use crate::programs::parts::met_at;
-use crate::task::Task;
 use farkas_rows::{Line, Use, Uses};
+use node_task::{OpenModel, Task};
 use range_dict::{Met, RangeDict};
 use std::alloc::Global;
 
@@ -78,7 +78,7 @@ pub(crate) fn binary_direction(
     }
     let (low, high) = (work.box_low(j), work.box_high(j));
     let sides = Sides::of(task, work.original_column(j)).ok_or(Halt::GivesUp)?;
-    let form = model.column(alloc, j)?;
+    let form = column(alloc, model, j)?;
     let first = met_at(alloc, task, dict, form.items(), low)?;
     let second = met_at(alloc, task, dict, form.items(), high)?;
     let (lo, count) = match (&first, &second) {

@@ -4,9 +4,8 @@ use crate::directions::spread::parts_of;
 use crate::directions::thin::Thin;
 use crate::directions::walls::{Wall, add_slacks, walls_of};
 use crate::halt::{Halt, passed_over};
-use crate::model::OpenModel;
-use crate::task::Task;
 use frac128::Frac;
+use node_task::{OpenModel, Task};
 use range_dict::{RangeDict, Vertex};
 use std::alloc::Global;
 

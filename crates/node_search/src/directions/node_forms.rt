@@ -1,7 +1,8 @@
 //! The forms of a node by which it is measured.
 use crate::directions::thin::{Thin, column_form};
 use crate::halt::Halt;
-use crate::model::OpenModel;
+use crate::model::lifted;
+use node_task::OpenModel;
 use spaces::{Form, Original};
 use std::alloc::Global;
 
@@ -47,7 +48,7 @@ fn coordinates(
 ) -> Result<Vec<Form<Original>>, Halt> {
     let mut forms = Vec::with_capacity(alloc, thin.forms.rows())?;
     for k in 0..thin.forms.rows() {
-        forms.push(model.lifted(alloc, thin.forms.row(k))?)?;
+        forms.push(lifted(alloc, model, thin.forms.row(k))?)?;
     }
     Ok(forms)
 }

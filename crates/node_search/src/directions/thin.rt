@@ -2,9 +2,10 @@
 use crate::forms::frame_forms::combine;
 use crate::forms::short::Shortener;
 use crate::halt::Halt;
-use crate::model::OpenModel;
+use crate::model::{column, lifted};
 use crate::numbers::factors::{add_row, divisor_of};
 use crate::numbers::quotient::floor;
+use node_task::OpenModel;
 use reformulate::Frame;
 use spaces::{Form, Grid, Original, Work};
 use std::alloc::Global;
@@ -32,7 +33,7 @@ pub(crate) fn short_form(
 ) -> Result<Form<Original>, Halt> {
     let mut factors = factors.to_vec(alloc)?;
     short.shorten(&mut factors).ok_or(Halt::GivesUp)?;
-    model.lifted(alloc, &factors)
+    lifted(alloc, model, &factors)
 }
 
 /// A form that has the values of work column `j` at the points of a frame, less a constant and over the greatest common
@@ -51,7 +52,7 @@ pub(crate) fn column_form(
     match divisor_of(lines.row(j)) {
         None => Err(Halt::GivesUp),
         Some(0) => Ok(None),
-        Some(1) => Ok(Some(model.column(alloc, j)?)),
+        Some(1) => Ok(Some(column(alloc, model, j)?)),
         Some(divisor) => {
             let factors = primitive_factors(alloc, thin.forms, lines.row(j), divisor)?;
             Ok(Some(short_form(alloc, model, thin.short, &factors)?))

@@ -3,8 +3,8 @@ use crate::directions::spread::{PARTS, parts_at};
 use crate::directions::thin::Thin;
 use crate::forms::frame_forms::combine;
 use crate::halt::Halt;
-use crate::model::OpenModel;
-use crate::task::Task;
+use crate::model::{column, lifted};
+use node_task::{OpenModel, Task};
 use range_dict::Vertex;
 use spaces::{Form, Original};
 use std::alloc::Global;
@@ -98,7 +98,7 @@ fn push_rows(
         let (low, high) = (work.low(i), work.high(i));
         if low.is_none() || low != high {
             let reach = reach_of(alloc, thin, work.row(i))?;
-            let form = model.lifted(alloc, work.row(i))?;
+            let form = lifted(alloc, model, work.row(i))?;
             push_walls(alloc, walls, &form, reach, low, high)?;
         }
     }
@@ -116,7 +116,7 @@ fn push_box(
     let lines = thin.frame.to_work().lines();
     for j in 0..work.columns().min(lines.rows()) {
         let reach = greatest_size(lines.row(j)).ok_or(Halt::GivesUp)?;
-        let form = model.column(alloc, j)?;
+        let form = column(alloc, model, j)?;
         let (low, high) = (Some(work.box_low(j)), Some(work.box_high(j)));
         push_walls(alloc, walls, &form, reach, low, high)?;
     }
@@ -139,7 +139,7 @@ fn push_cut(
         .checked_sub(1)
         .and_then(|most| most.checked_sub(work.cost_constant()));
     let reach = reach_of(alloc, thin, work.cost())?;
-    let form = model.lifted(alloc, work.cost())?;
+    let form = lifted(alloc, model, work.cost())?;
     push_walls(alloc, walls, &form, reach, None, most)
 }
 

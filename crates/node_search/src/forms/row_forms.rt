@@ -3,9 +3,9 @@ ghost use Rattle.std.specs.List.{All};
 ghost use Rattle.std.specs.Prelude.{◌≡◌, length, IfOk};
 
 use crate::halt::Halt;
-use crate::model::OpenModel;
 use crate::numbers::factors::add_row;
 use crate::numbers::quotient::nearest;
+use node_task::OpenModel;
 use reformulate::{Equalities, Equality, Frame, Framed};
 use sequence::{NoMemory, Sequence};
 use spaces::{Form, Grid, Work};

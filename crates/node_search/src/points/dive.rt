@@ -7,11 +7,11 @@ use crate::directions::ends::{Direction, measured};
 use crate::directions::seen::{Seen, value_at};
 use crate::directions::thin::Thin;
 use crate::halt::{Halt, passed_over};
-use crate::model::OpenModel;
+use crate::model::{has_costs, lifted};
 use crate::numbers::around::Nearest;
 use crate::points::near::near;
 use crate::programs::parts::part_at;
-use crate::task::Task;
+use node_task::{OpenModel, Task};
 use range_dict::{RangeDict, Vertex};
 use spaces::{Original, Vect};
 use std::alloc::Global;
@@ -53,7 +53,7 @@ fn look_below<'a>(
     if level == 0 || level > thin.forms.rows() || *left == 0 {
         return Ok(None);
     }
-    let form = model.lifted(alloc, thin.forms.row(level - 1))?;
+    let form = lifted(alloc, model, thin.forms.row(level - 1))?;
     let direction = measured(alloc, dict, &mut Seen::new(alloc), form)?.direction;
     let mut values = values_near(&direction, vertex).ok_or(Halt::GivesUp)?;
     for _value in 0..MOST_VALUES {
@@ -89,7 +89,7 @@ pub(crate) fn look_through<'a>(
     ensures { IfOk result (λ found. IfSome found (Improves look.entry.task.rows.now look.entry.task.best look.entry.task.path.now)) }
 {
     if *left == 0 {
-        return if look.task.has_costs() {
+        return if has_costs(look.task) {
             Ok(None)
         } else {
             near(alloc, look.model, look.task, look.thin, vertex)

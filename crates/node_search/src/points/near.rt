@@ -5,10 +5,8 @@ ghost use Rattle.proof_tree.specs.Moves.{Improves};
 
 use crate::directions::thin::Thin;
 use crate::halt::Halt;
-use crate::model::OpenModel;
-use crate::points::better::better;
 use crate::points::rounded::{Rounding, rounded_point, shifted, whole_values};
-use crate::task::Task;
+use node_task::{OpenModel, Task, better};
 use range_dict::Vertex;
 use spaces::{Original, Vect};
 use std::alloc::Global;

@@ -1,9 +1,10 @@
 //! Whole points next to a vertex, which are tried before any split.
 use crate::directions::thin::Thin;
 use crate::halt::Halt;
-use crate::model::OpenModel;
+use crate::model::work_value;
 use crate::numbers::quotient::floor;
 use exact_vectors::{add_product, dot_checked};
+use node_task::OpenModel;
 use range_dict::Vertex;
 use reformulate::Frame;
 use spaces::{Grid, Vect, Work};
@@ -68,7 +69,7 @@ pub(crate) fn shifted(
 
 /// The value of a work column less a whole number, as a numerator.
 fn shifted_value(model: &OpenModel, vertex: &Vertex, j: usize, base: i128) -> Option<i128> {
-    let numerator = model.work_value(&vertex.numerators, j)?;
+    let numerator = work_value(model, &vertex.numerators, j)?;
     add_product(numerator, base.checked_neg()?, vertex.denominator)
 }
 

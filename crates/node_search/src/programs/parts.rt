@@ -1,6 +1,6 @@
 //! The programs of a node and of its parts, from dictionaries that are begun anew where their numbers leave 64 bits.
 use crate::halt::Halt;
-use crate::task::Task;
+use node_task::Task;
 use range_dict::{Met, RangeDict, RangeStop, Vertex};
 use std::alloc::Global;
 

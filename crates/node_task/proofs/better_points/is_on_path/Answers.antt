@@ -5,7 +5,7 @@ use Rattle.std.proofs.lemmas.List.Elements.{All-more}
 use Rattle.exact_math.specs.Ring.{integers}
 use Rattle.exact_vectors.specs.Vectors.{dot}
 use Rattle.farkas_rows.specs.declared.path.Slice.{Slice}
-use Rattle.node_search.proofs.points.better.is_on_path.Goals as goal
+use Rattle.node_task.proofs.better_points.is_on_path.Goals as goal
 
 -- the values lie on the slice
 abbrev Lies : List ℤ → Slice → Type 0

@@ -9,10 +9,3 @@ pub struct Task<'a> {
     pub path: &'a Path,
     pub best: Option<i128>,
 }
-
-impl Task<'_> {
-    /// Whether some column has costs.
-    pub(crate) fn has_costs(self) -> bool {
-        self.rows.cost().iter().any(|factor| *factor != 0)
-    }
-}

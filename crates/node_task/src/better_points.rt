@@ -57,7 +57,7 @@ fn improves(task: Task<'_>, x: &[i128]) -> bool
 }
 
 /// The values as a point, where they are there and pass the check.
-pub(crate) fn better(task: Task<'_>, values: Option<Vec<i128>>) -> Option<Vect<Original>>
+pub fn better(task: Task<'_>, values: Option<Vec<i128>>) -> Option<Vect<Original>>
     requires { HasForms (length task.rows.now.box) task.path.now }
     ensures { IfSome result (Improves task.entry.rows.now task.entry.best task.entry.path.now) }
 {
