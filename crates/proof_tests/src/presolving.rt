@@ -16,26 +16,44 @@ fn root(alloc: Global, x: Bounds, y: Bounds, low: i128, high: i128) -> Result<De
     Ok(rows)
 }
 
+/// The same where x is 1, y is from 0 to 3, and the sum is 8.
+fn fixed(alloc: Global) -> Result<DenseRows, Fail> {
+    let (x, y) = (Bounds { low: 1, high: 1 }, Bounds { low: 0, high: 3 });
+    root(alloc, x, y, 8, 8)
+}
+
 #[test]
 fn a_fixed_column_leaves(rt: HostRuntime) -> Result<(), Fail> {
-    let rows = root(
-        rt.alloc(),
-        Bounds { low: 1, high: 1 },
-        Bounds { low: 0, high: 3 },
-        8,
-        8,
-    )?;
-    let Presolved::Open { map, rows: work } = presolve(rt.alloc(), &rows)? else {
+    let rows = fixed(rt.alloc())?;
+    let Presolved::Open { map: _, rows: work } = presolve(rt.alloc(), &rows)? else {
         return Err(NoMemory)?;
     };
     assert_eq!(rt; work.columns(), 1);
+    assert_eq!(rt; work.original_column(0), 1);
+    assert_eq!(rt; work.cost_constant(), 2);
+    Ok(())
+}
+
+#[test]
+fn the_sides_of_a_row_move(rt: HostRuntime) -> Result<(), Fail> {
+    let rows = fixed(rt.alloc())?;
+    let Presolved::Open { map: _, rows: work } = presolve(rt.alloc(), &rows)? else {
+        return Err(NoMemory)?;
+    };
     assert_eq!(rt; work.rows(), 1);
     assert_eq!(rt; work.row(0), [5].as_slice());
     assert_eq!(rt; work.low(0), Some(5));
     assert_eq!(rt; work.high(0), Some(5));
-    assert_eq!(rt; work.original_column(0), 1);
     assert_eq!(rt; work.original_row(0), 0);
-    assert_eq!(rt; work.cost_constant(), 2);
+    Ok(())
+}
+
+#[test]
+fn a_form_is_lifted(rt: HostRuntime) -> Result<(), Fail> {
+    let rows = fixed(rt.alloc())?;
+    let Presolved::Open { map, rows: _ } = presolve(rt.alloc(), &rows)? else {
+        return Err(NoMemory)?;
+    };
     assert_eq!(rt; map.base().items(), [1, 0].as_slice());
     let form = Form::of(vec![in rt.alloc(); 4]?);
     assert_eq!(rt; form.items().len(), map.lines().width());
@@ -70,13 +88,7 @@ fn roots_are_closed(rt: HostRuntime) -> Result<(), Fail> {
 
 #[test]
 fn a_bound_takes_the_sum_of_a_removed_column(rt: HostRuntime) -> Result<(), Fail> {
-    let rows = root(
-        rt.alloc(),
-        Bounds { low: 1, high: 1 },
-        Bounds { low: 0, high: 3 },
-        8,
-        8,
-    )?;
+    let rows = fixed(rt.alloc())?;
     let times = WorkTimes {
         cut: Frac::whole(1),
         items: OriginalTimes::new(rt.alloc()),
